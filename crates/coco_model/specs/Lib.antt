@@ -1,0 +1,16 @@
+pub mod Cells
+pub mod Netlist
+pub mod Labels
+pub mod Carried
+pub mod Run
+pub mod Known
+pub mod Controls
+pub mod Calm
+pub mod Reach
+pub mod Secure
+pub mod Events
+pub mod SecureInTime
+pub mod Roots
+pub mod Findings
+pub mod Nodes
+pub mod Cones

@@ -1,0 +1,93 @@
+-- The netlist, and the valuations that agree with its cells.
+use Rattle.std.specs.Prelude.{◌≡◌, ◌≢◌, ℕ, ◌<◌, Bool, false, cond, List, [], ◌∷◌, ◌++◌, map, flat_map, Any, Contains, Option, Some, ◌⊎◌}
+use Rattle.coco_base.specs.declared.netlist.Flat.{Flat}
+use Rattle.coco_base.specs.declared.netlist.FlatCell.{FlatCell}
+use Rattle.coco_base.specs.declared.netlist.FlatFlop.{FlatFlop}
+use Rattle.coco_base.specs.declared.netlist.FlatPort.{FlatPort}
+use Rattle.coco_base.specs.declared.netlist.FlatNet.{FlatNet}
+use Rattle.coco_base.specs.declared.netlist.Wire.{Wire}
+use Rattle.coco_base.specs.declared.netlist.Wire.TheVariants.{Const, Bit}
+use Rattle.coco_model.specs.Cells.{output_of, input_places}
+
+-- the wires that a cell reads: those at the inputs of its kind
+abbrev pub wires_of : FlatCell → List Wire
+wires_of cell = input_places cell.kind cell.inputs
+
+-- what a wire has, where constants and bits have something
+abbrev pub on_wire : {X : Type 0} → (Bool → X) → (ℕ → X) → Wire → X
+on_wire constant state (Const b) = constant b
+on_wire constant state (Bit n) = state n
+
+-- a value of every bit
+abbrev pub Valuation : Type 0
+Valuation = ℕ → Bool
+
+abbrev pub wire_value : Valuation → Wire → Bool
+wire_value v w = on_wire (λ b. b) v w
+
+-- what a cell computes from a valuation
+abbrev pub cell_value : Valuation → FlatCell → Bool
+cell_value v cell = output_of cell.kind (map (wire_value v) (wires_of cell))
+
+-- the bits among wires
+abbrev pub bits_in : List Wire → List ℕ
+bits_in [] = []
+bits_in (Const b ∷ ws) = bits_in ws
+bits_in (Bit n ∷ ws) = n ∷ bits_in ws
+
+-- the bits of the input ports, port by port
+abbrev pub input_bits : Flat → List ℕ
+input_bits flat = flat_map (λ (p : FlatPort). cond p.input (bits_in p.wires) []) flat.ports
+
+abbrev pub IsInputBit : Flat → ℕ → Type 0
+IsInputBit flat b = Contains (input_bits flat) b
+
+abbrev pub IsFlopBit : Flat → ℕ → Type 0
+IsFlopBit flat b = Any (λ (f : FlatFlop). f.output ≡ b) flat.flops
+
+abbrev pub IsCellBit : Flat → ℕ → Type 0
+IsCellBit flat b = Any (λ (c : FlatCell). c.output ≡ b) flat.cells
+
+-- no input port, flop or cell drives the bit
+pub record IsUndriven (flat : Flat) (b : ℕ) : Type 0 where
+  pub no_input : IsInputBit flat b → ⊥
+  pub no_flop : IsFlopBit flat b → ⊥
+  pub no_cell : IsCellBit flat b → ⊥
+
+-- a leaf: a flop's output, or an input port bit other than the clock
+pub record IsLeaf (flat : Flat) (clock : Option ℕ) (b : ℕ) : Type 0 where
+  pub driven : IsFlopBit flat b ⊎ IsInputBit flat b
+  pub no_clock : clock ≢ Some b
+
+-- each cell's output is its function of its inputs, and a bit that nothing drives is 0
+pub record IsSettled (flat : Flat) (v : Valuation) : Type 0 where
+  pub cells : (c : FlatCell) → Contains flat.cells c → v c.output ≡ cell_value v c
+  pub undriven : (b : ℕ) → IsUndriven flat b → v b ≡ false
+
+-- each cell's output has a higher rank than the bits that the cell reads; so no cells make a loop
+pub record IsRanked (flat : Flat) (rank : ℕ → ℕ) : Type 0 where
+  pub cells : (c : FlatCell) → Contains flat.cells c → (b : ℕ) → Contains (wires_of c) (Bit b) → rank b < rank c.output
+
+-- no member stands twice
+abbrev pub HasNoRepeat : {X : Type 0} → List X → Type 0
+HasNoRepeat [] = Unit {0}
+HasNoRepeat (x ∷ xs) = (Contains xs x → ⊥) × HasNoRepeat xs
+
+-- the driven bits, driver by driver: the places of input ports, then cells, then flops
+abbrev pub driven_bits : Flat → List ℕ
+driven_bits flat = input_bits flat ++ map (λ (c : FlatCell). c.output) flat.cells ++ map (λ (f : FlatFlop). f.output) flat.flops
+
+-- no bit has two drivers
+pub record HasOneDriver (flat : Flat) : Type 0 where
+  pub once : HasNoRepeat (driven_bits flat)
+
+-- each bit that the netlist names is below its number of bits
+pub record IsInRange (flat : Flat) : Type 0 where
+  pub outputs : (c : FlatCell) → Contains flat.cells c → c.output < flat.bits
+  pub inputs : (c : FlatCell) → Contains flat.cells c → (b : ℕ) → Contains (wires_of c) (Bit b) → b < flat.bits
+  pub flops : (f : FlatFlop) → Contains flat.flops f → f.output < flat.bits
+  pub next : (f : FlatFlop) → Contains flat.flops f → (b : ℕ) → f.next ≡ Bit b → b < flat.bits
+  pub clocks : (f : FlatFlop) → Contains flat.flops f → (b : ℕ) → f.clock ≡ Bit b → b < flat.bits
+  pub resets : (f : FlatFlop) → Contains flat.flops f → (b : ℕ) → f.reset ≡ Some (Bit b) → b < flat.bits
+  pub ports : (p : FlatPort) → Contains flat.ports p → (b : ℕ) → Contains p.wires (Bit b) → b < flat.bits
+  pub nets : (n : FlatNet) → Contains flat.nets n → (b : ℕ) → Contains n.wires (Bit b) → b < flat.bits
