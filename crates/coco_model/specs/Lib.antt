@@ -14,3 +14,4 @@ pub mod Roots
 pub mod Findings
 pub mod Nodes
 pub mod Cones
+pub mod Examples
