@@ -1,6 +1,6 @@
 -- Walks against the wires, by their first step.
 use Rattle.std.proofs.Common.{◌≡◌, ℕ, ◌⊎◌, inl, inr, false, get_or, refl, subst, sym}
-use Rattle.std.specs.Prelude.{Contains, Any}
+use Rattle.std.specs.Prelude.{Contains}
 use Rattle.coco_base.specs.declared.netlist.Flat.{Flat}
 use Rattle.coco_base.specs.declared.netlist.FlatCell.{FlatCell}
 use Rattle.coco_base.specs.declared.netlist.Wire.TheVariants.{Const, Bit}

@@ -12,7 +12,6 @@ use Rattle.coco_base.specs.declared.netlist.FlatPort.{FlatPort}
 use Rattle.coco_base.specs.declared.netlist.Wire.{Wire}
 use Rattle.coco_base.specs.declared.netlist.Wire.TheVariants.{Const, Bit}
 use Rattle.coco_base.specs.declared.labels.LabelTable.{LabelTable}
-use Rattle.coco_base.specs.declared.labels.SecretPlan.{SecretPlan}
 use Rattle.coco_base.specs.declared.setup.Start.{Start}
 use Rattle.coco_base.specs.declared.setup.Start.TheVariants.{Public, Label}
 use Rattle.coco_base.specs.declared.setup.InputPlan.{InputPlan}
@@ -42,7 +41,7 @@ two_input_xor name = record {
   ports = input_port name 0 ∷ input_port name 1 ∷ [];
   cells = gate name Xor (Bit 0 ∷ Bit 1 ∷ Const false ∷ Const false ∷ []) 2 ∷ [];
   flops = [];
-  nets = []
+  nets = [];
 }
 
 -- y = MUX(q0, q1, s): the clock is bit 0, the input s bit 1, the flops q0 and q1 that keep their values bits 2 and 3, and y bit 4
@@ -52,7 +51,7 @@ selected_shares name = record {
   ports = input_port name 0 ∷ input_port name 1 ∷ [];
   cells = gate name Mux (Bit 2 ∷ Bit 3 ∷ Bit 1 ∷ Const false ∷ []) 4 ∷ [];
   flops = keeper name 2 ∷ keeper name 3 ∷ [];
-  nets = []
+  nets = [];
 }
 
 -- y = AND(q0, z) with z = XOR(s, s): the clock is bit 0, the input s bit 1, z bit 2, the flop q0 that keeps its value bit 3, and y bit 4
@@ -62,7 +61,7 @@ pulsing_gate name = record {
   ports = input_port name 0 ∷ input_port name 1 ∷ [];
   cells = gate name And (Bit 3 ∷ Bit 2 ∷ Const false ∷ Const false ∷ []) 4 ∷ gate name Xor (Bit 1 ∷ Bit 1 ∷ Const false ∷ Const false ∷ []) 2 ∷ [];
   flops = keeper name 3 ∷ [];
-  nets = []
+  nets = [];
 }
 
 -- one flop that keeps its value, bit 1, over the clock, bit 0
@@ -76,7 +75,7 @@ one_secret name shares = record {
   masks = [];
   fresh = [];
   declared = shares;
-  per_cycle = 0
+  per_cycle = 0;
 }
 
 -- a run with these starts and inputs and one secret, clocked by bit 0
@@ -91,7 +90,7 @@ setup_of name shares starts inputs = record {
   pc = [];
   lines = [];
   table = one_secret name shares;
-  clock = Some 0
+  clock = Some 0;
 }
 
 -- the flops q0 and q1 hold the two shares of a secret, and s is 0 and then 1
