@@ -5,6 +5,7 @@ pub mod Carried
 pub mod Run
 pub mod Known
 pub mod Controls
+pub mod Setups
 pub mod Calm
 pub mod Reach
 pub mod Secure
@@ -14,3 +15,4 @@ pub mod Roots
 pub mod Findings
 pub mod Nodes
 pub mod Cones
+pub mod Examples

@@ -81,13 +81,18 @@ driven_bits flat = input_bits flat ++ map (λ (c : FlatCell). c.output) flat.cel
 pub record HasOneDriver (flat : Flat) : Type 0 where
   pub once : HasNoRepeat (driven_bits flat)
 
--- each bit that the netlist names is below its number of bits
+-- a wire is a constant or a bit with a number below so many
+abbrev pub IsWireBelow : ℕ → Wire → Type 0
+IsWireBelow bits (Const b) = Unit {0}
+IsWireBelow bits (Bit n) = n < bits
+
+-- each bit that the netlist names is one of its bits
 pub record IsInRange (flat : Flat) : Type 0 where
   pub outputs : (c : FlatCell) → Contains flat.cells c → c.output < flat.bits
-  pub inputs : (c : FlatCell) → Contains flat.cells c → (b : ℕ) → Contains (wires_of c) (Bit b) → b < flat.bits
+  pub inputs : (c : FlatCell) → Contains flat.cells c → (w : Wire) → Contains (wires_of c) w → IsWireBelow flat.bits w
   pub flops : (f : FlatFlop) → Contains flat.flops f → f.output < flat.bits
-  pub next : (f : FlatFlop) → Contains flat.flops f → (b : ℕ) → f.next ≡ Bit b → b < flat.bits
-  pub clocks : (f : FlatFlop) → Contains flat.flops f → (b : ℕ) → f.clock ≡ Bit b → b < flat.bits
-  pub resets : (f : FlatFlop) → Contains flat.flops f → (b : ℕ) → f.reset ≡ Some (Bit b) → b < flat.bits
-  pub ports : (p : FlatPort) → Contains flat.ports p → (b : ℕ) → Contains p.wires (Bit b) → b < flat.bits
-  pub nets : (n : FlatNet) → Contains flat.nets n → (b : ℕ) → Contains n.wires (Bit b) → b < flat.bits
+  pub next : (f : FlatFlop) → Contains flat.flops f → IsWireBelow flat.bits f.next
+  pub clocks : (f : FlatFlop) → Contains flat.flops f → IsWireBelow flat.bits f.clock
+  pub resets : (f : FlatFlop) → Contains flat.flops f → (w : Wire) → f.reset ≡ Some w → IsWireBelow flat.bits w
+  pub ports : (p : FlatPort) → Contains flat.ports p → (w : Wire) → Contains p.wires w → IsWireBelow flat.bits w
+  pub nets : (n : FlatNet) → Contains flat.nets n → (w : Wire) → Contains n.wires w → IsWireBelow flat.bits w

@@ -1,5 +1,5 @@
 -- The nodes of an unrolled run, by the roots that they stand for, and selections of nodes.
-use Rattle.std.specs.Prelude.{◌≡◌, ◌≢◌, ℕ, ◌+◌, ◌*◌, ◌^◌, ◌<◌, ◌≤◌, false, List, map, length, get_or, nat_eq, pos, Contains}
+use Rattle.std.specs.Prelude.{◌≡◌, ◌≢◌, ℕ, suc, ◌+◌, ◌*◌, ◌^◌, ◌<◌, ◌≤◌, false, List, map, length, get_or, nat_eq, pos, Contains}
 use Rattle.coco_base.specs.declared.netlist.Flat.{Flat}
 use Rattle.coco_base.specs.declared.netlist.FlatCell.{FlatCell}
 use Rattle.coco_base.specs.declared.netlist.Wire.{Wire}
@@ -12,8 +12,11 @@ use Rattle.coco_base.specs.declared.unrolled.Node.TheVariants.{Nothing, Label, C
 use Rattle.coco_model.specs.Cells.{input_count, input_places, Subset, IsSubsetOf, subset_of_number, signed_sum}
 use Rattle.coco_model.specs.Netlist.{wires_of}
 use Rattle.coco_model.specs.Findings.{Labels, chosen_set}
-use Rattle.coco_model.specs.Known.{Row, cell_parts}
-use Rattle.coco_model.specs.Roots.{Root}
+use Rattle.coco_base.specs.declared.setup.Setup.{Setup}
+use Rattle.coco_model.specs.Carried.{States, IsGiven, IsFirst, IsNext}
+use Rattle.coco_model.specs.Run.{before}
+use Rattle.coco_model.specs.Known.{Row, cell_parts, ones}
+use Rattle.coco_model.specs.Roots.{Root, IsKept}
 use Rattle.coco_model.specs.Roots.Root.{nothing, label, output}
 
 -- the operand of a gate at a place: the node of an input that is unknown, else 0
@@ -35,6 +38,13 @@ pub record IsGateOf (index : ℕ → ℕ) (row : Row) (c : FlatCell) (kind : Kin
   pub others : (j : ℕ) → input_count kind ≤ j → get_or gate_parts j Zero ≡ Zero
   pub no_operands : (j : ℕ) → input_count kind ≤ j → get_or gate_operands j 0 ≡ 0
 
+-- a node is the gate of a cell
+abbrev pub IsOwnGate : (ℕ → ℕ) → Row → FlatCell → Node → Type 0
+IsOwnGate index row c Nothing = ⊥
+IsOwnGate index row c (Label l) = ⊥
+IsOwnGate index row c (Copy j) = ⊥
+IsOwnGate index row c (Gate kind parts operands) = IsGateOf index row c kind parts operands
+
 -- the node of a bit in a cycle, where index gives the numbers of nodes: by the bit's root it is nothing, a label, a copy of an earlier
 -- cycle's node with the same root, or the gate of the cell that drives the bit
 abbrev pub IsNodeOf : Flat → (ℕ → ℕ → ℕ) → (ℕ → Row) → (ℕ → ℕ → Root) → ℕ → ℕ → Node → Type 0
@@ -43,6 +53,32 @@ IsNodeOf flat index row root t b (Label l) = root t b ≡ label l
 IsNodeOf flat index row root t b (Copy j) = (s : ℕ) × (c : ℕ) × (s < t) × (c < flat.bits) × (j ≡ index s c) × (root t b ≢ nothing) × (root t b ≡ root s c)
 IsNodeOf flat index row root t b (Gate kind parts operands) =
     (c : FlatCell) × Contains flat.cells c × (c.output ≡ b) × (root t b ≡ output t b) × IsGateOf (index t) (row t) c kind parts operands
+
+-- nodes as states: a constant is nothing, and a label is its own
+abbrev pub starting_nodes : States Node
+starting_nodes = record { constant = λ _. Nothing; label = Label }
+
+-- a copy of a bit's node where the bit is unknown, and else nothing
+abbrev pub copy_of : Part → ℕ → Node
+copy_of Zero i = Nothing
+copy_of One i = Nothing
+copy_of Vary i = Copy i
+
+-- the node of a cell's output: nothing where it is known, a copy of the node in the cycle before where the cell keeps its root, and else
+-- the cell's gate
+pub record HasCellNode (index : ℕ → ℕ → ℕ) (row : ℕ → Row) (root : ℕ → ℕ → Root) (t : ℕ) (c : FlatCell) (node : Node) : Type 0 where
+  pub known : row t c.output ≢ Vary → node ≡ Nothing
+  pub kept : row t c.output ≡ Vary → IsKept row root t c → node ≡ Copy (index (before t) c.output)
+  pub own : row t c.output ≡ Vary → (IsKept row root t c → ⊥) → IsOwnGate (index t) (row t) c node
+
+-- the nodes of a run, by cycle and bit, where word tells those of memory words: a start is nothing or a label, a later leaf a copy of its
+-- source's node, where the source of a word's bit that was stored is the bit that was stored, and else as above
+pub record IsUnrolled (flat : Flat) (setup : Setup) (cycles : ℕ) (index : ℕ → ℕ → ℕ) (row : ℕ → Row) (root : ℕ → ℕ → Root) (node : ℕ → ℕ → Node) (word : ℕ → ℕ → ℕ → Node) : Type 0 where
+  pub cells : (t : ℕ) → t < cycles → (c : FlatCell) → Contains flat.cells c → HasCellNode index row root t c (node t c.output)
+  pub given : (t : ℕ) → t < cycles → IsGiven starting_nodes flat setup t (node t)
+  pub first : IsFirst starting_nodes flat setup (node 0) (word 0)
+  pub next : (t : ℕ) → suc t < cycles
+      → IsNext starting_nodes flat setup (ones (row t)) (λ b. copy_of (row t b) (index t b)) (word t) (node (suc t)) (word (suc t))
 
 -- a node leads to its origin by copies
 pub data LeadsTo (nodes : ℕ → Node) (origin : ℕ) : ℕ → Type 0 where

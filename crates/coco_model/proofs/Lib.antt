@@ -1,0 +1,6 @@
+pub mod Basics
+pub mod Walks
+mod Keepers
+mod Circuits
+mod Pulses
+mod Unshared

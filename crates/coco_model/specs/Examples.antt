@@ -1,0 +1,125 @@
+-- Small circuits, with which the definitions can be computed by hand.
+use Rattle.std.specs.Prelude.{ℕ, zero, suc, false, true, List, [], ◌∷◌, map, length, ℤ, Some, None, Contains, ◌↔◌}
+use Rattle.std.specs.List.{range_with_len}
+use Rattle.coco_base.specs.declared.text.Text.{Text}
+use Rattle.coco_base.specs.declared.cell.Kind.{Kind}
+use Rattle.coco_base.specs.declared.cell.Kind.TheVariants.{And, Xor, Mux}
+use Rattle.coco_base.specs.declared.cell.Part.{Part}
+use Rattle.coco_base.specs.declared.netlist.Flat.{Flat}
+use Rattle.coco_base.specs.declared.netlist.FlatCell.{FlatCell}
+use Rattle.coco_base.specs.declared.netlist.FlatFlop.{FlatFlop}
+use Rattle.coco_base.specs.declared.netlist.FlatPort.{FlatPort}
+use Rattle.coco_base.specs.declared.netlist.Wire.{Wire}
+use Rattle.coco_base.specs.declared.netlist.Wire.TheVariants.{Const, Bit}
+use Rattle.coco_base.specs.declared.labels.LabelTable.{LabelTable}
+use Rattle.coco_base.specs.declared.setup.Start.{Start}
+use Rattle.coco_base.specs.declared.setup.Start.TheVariants.{Public, Label}
+use Rattle.coco_base.specs.declared.setup.InputPlan.{InputPlan}
+use Rattle.coco_base.specs.declared.setup.Setup.{Setup}
+use Rattle.coco_model.specs.Cells.{signed_sum, subset_of_number}
+use Rattle.coco_model.specs.Netlist.{Valuation}
+use Rattle.coco_model.specs.Reach.{Reach}
+
+-- the signed sums of a gate at the subsets with the first numbers, so many
+abbrev pub signed_sums : Kind → List Part → ℕ → List ℤ
+signed_sums kind parts count = map (λ number. signed_sum kind parts (subset_of_number (length parts) number)) (range_with_len 0 count)
+
+abbrev pub input_port : Text → ℕ → FlatPort
+input_port name bit = record { name = name; input = true; wires = Bit bit ∷ [] }
+
+abbrev pub gate : Text → Kind → List Wire → ℕ → FlatCell
+gate name kind inputs output = record { name = name; kind = kind; inputs = inputs; output = output }
+
+-- a flop that keeps its value, clocked by bit 0
+abbrev pub keeper : Text → ℕ → FlatFlop
+keeper name bit = record { name = name; clock = Bit 0; next = Bit bit; output = bit; reset = None; level = false }
+
+-- y = XOR(a, b): a and b are the input bits 0 and 1, and y is bit 2
+abbrev pub two_input_xor : Text → Flat
+two_input_xor name = record {
+  bits = 3;
+  ports = input_port name 0 ∷ input_port name 1 ∷ [];
+  cells = gate name Xor (Bit 0 ∷ Bit 1 ∷ Const false ∷ Const false ∷ []) 2 ∷ [];
+  flops = [];
+  nets = [];
+}
+
+-- y = MUX(q0, q1, s): the clock is bit 0, the input s bit 1, the flops q0 and q1 that keep their values bits 2 and 3, and y bit 4
+abbrev pub selected_shares : Text → Flat
+selected_shares name = record {
+  bits = 5;
+  ports = input_port name 0 ∷ input_port name 1 ∷ [];
+  cells = gate name Mux (Bit 2 ∷ Bit 3 ∷ Bit 1 ∷ Const false ∷ []) 4 ∷ [];
+  flops = keeper name 2 ∷ keeper name 3 ∷ [];
+  nets = [];
+}
+
+-- y = AND(q0, z) with z = XOR(s, s): the clock is bit 0, the input s bit 1, z bit 2, the flop q0 that keeps its value bit 3, and y bit 4
+abbrev pub pulsing_gate : Text → Flat
+pulsing_gate name = record {
+  bits = 5;
+  ports = input_port name 0 ∷ input_port name 1 ∷ [];
+  cells = gate name And (Bit 3 ∷ Bit 2 ∷ Const false ∷ Const false ∷ []) 4 ∷ gate name Xor (Bit 1 ∷ Bit 1 ∷ Const false ∷ Const false ∷ []) 2 ∷ [];
+  flops = keeper name 3 ∷ [];
+  nets = [];
+}
+
+-- one flop that keeps its value, bit 1, over the clock, bit 0
+abbrev pub one_register : Text → Flat
+one_register name = record { bits = 2; ports = input_port name 0 ∷ []; cells = []; flops = keeper name 1 ∷ []; nets = [] }
+
+-- the labels of one secret of one bit in so many shares
+abbrev pub one_secret : Text → ℕ → LabelTable
+one_secret name shares = record {
+  secrets = record { name = name; width = 1; shares = shares; first = 0 } ∷ [];
+  masks = [];
+  fresh = [];
+  declared = shares;
+  per_cycle = 0;
+}
+
+-- a run with these starts and inputs and one secret, clocked by bit 0
+abbrev pub setup_of : Text → ℕ → List Start → List InputPlan → Setup
+setup_of name shares starts inputs = record {
+  starts = starts;
+  inputs = inputs;
+  echoes = [];
+  memories = [];
+  words = [];
+  controls = [];
+  pc = [];
+  lines = [];
+  table = one_secret name shares;
+  clock = Some 0;
+}
+
+-- the flops q0 and q1 hold the two shares of a secret, and s is 0 and then 1
+abbrev pub selected_setup : Text → Setup
+selected_setup name = setup_of name 2 (Public false ∷ Public false ∷ Label 0 ∷ Label 1 ∷ Public false ∷ [])
+    (record { bit = 1; values = Public false ∷ Public true ∷ [] } ∷ [])
+
+-- the flop q0 holds a share, and s is 0 and then 1
+abbrev pub pulsing_setup : Text → Setup
+pulsing_setup name = setup_of name 2 (Public false ∷ Public false ∷ Public false ∷ Label 0 ∷ Public false ∷ [])
+    (record { bit = 1; values = Public false ∷ Public true ∷ [] } ∷ [])
+
+-- the flop holds the one share of a secret
+abbrev pub unshared_setup : Text → Setup
+unshared_setup name = setup_of name 1 (Public false ∷ Label 0 ∷ []) []
+
+-- y = MUX(q0, q1, s) reaches q0 while s stays 0, all three while s changes, and q1 while s stays 1
+pub record IsSelectedReach (reach : Reach) : Type 0 where
+  pub zero : (leaf : ℕ) → Contains (reach 0 4) leaf ↔ Contains (2 ∷ []) leaf
+  pub changing : (leaf : ℕ) → Contains (reach 1 4) leaf ↔ Contains (1 ∷ 2 ∷ 3 ∷ []) leaf
+  pub one : (leaf : ℕ) → Contains (reach 2 4) leaf ↔ Contains (3 ∷ []) leaf
+
+-- y = AND(q0, XOR(s, s)) reaches nothing while s stays 0, and both q0 and s while s changes
+pub record IsPulsingReach (reach : Reach) : Type 0 where
+  pub still : (leaf : ℕ) → Contains (reach 0 4) leaf ↔ Contains [] leaf
+  pub changing : (leaf : ℕ) → Contains (reach 1 4) leaf ↔ Contains (1 ∷ 3 ∷ []) leaf
+
+-- both inputs of the exclusive or are 1, and its output 0
+abbrev pub inputs_high : Valuation
+inputs_high zero = true
+inputs_high (suc zero) = true
+inputs_high (suc (suc b)) = false
