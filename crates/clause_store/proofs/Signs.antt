@@ -1,9 +1,9 @@
 -- What a clause says of each variable, and that this tells the clause.
-use Rattle.std.proofs.Common.{◌≡◌, ◌≢◌, ℕ, suc, ◌<◌, ◌≤◌, Bool, true, false, eqb, List, [], ◌∷◌, Some, None, length, get_or, refl, sym, ◌∙◌, inl, inr, arith}
+use Rattle.std.proofs.Common.{◌≡◌, ◌≢◌, ℕ, suc, zero, ◌<◌, ◌≤◌, Bool, true, false, eqb, List, [], ◌∷◌, Some, None, length, get_or, refl, sym, ◌∙◌, inl, inr, arith}
 use Rattle.clause_store.specs.declared.lit.Lit.{Lit}
 use Rattle.clause_store.specs.Signs.{Ascends, sign_of}
 use Rattle.std.proofs.lemmas.Grind.{common_steps}
-use Rattle.std.proofs.lemmas.Bool.{cases_eq, cases_order}
+use Rattle.std.proofs.lemmas.Bool.{cases_eq, cases_lt, cases_order}
 
 abbrev pub lit_of : ℕ → Bool → Lit
 lit_of v b = record { var = v; positive = b }
@@ -14,6 +14,26 @@ lits_equal l m v b =
 
 pub ascends_tail : (l : Lit) (lits : List Lit) → Ascends (l ∷ lits) → Ascends lits
 ascends_tail l lits h = λ i j d i<j j<n. h (suc i) (suc j) d (omega arith) (omega arith)
+
+-- it is enough that each variable is less than the next
+abbrev pub NeighboursAscend : List Lit → ℕ → Type 0
+NeighboursAscend lits n = (k : ℕ) (d : Lit) → suc k < n → (get_or lits k d).var < (get_or lits (suc k) d).var
+
+neighbours_apart : (lits : List Lit) (n : ℕ) → NeighboursAscend lits n → (i j : ℕ) (d : Lit) → i < j → j < n → (get_or lits i d).var < (get_or lits j d).var
+neighbours_apart lits n h i zero d i<j j<n = absurd (omega arith)
+neighbours_apart lits n h i (suc j) d i<j j<n =
+    let step : (get_or lits j d).var < (get_or lits (suc j) d).var = h j d j<n in
+    elim (cases_lt i j) [
+      | inl lt ↦
+          let before : (get_or lits i d).var < (get_or lits j d).var = neighbours_apart lits n h i j d lt (omega arith) in
+          omega arith
+      | inr ge ↦
+          let same : i ≡ j = omega arith in
+          rw same step
+    ]
+
+pub ascends_from_neighbours : (lits : List Lit) (n : ℕ) → length lits ≤ n → NeighboursAscend lits n → Ascends lits
+ascends_from_neighbours lits n le h = λ i j d i<j j<n. neighbours_apart lits n h i j d i<j (omega arith)
 
 -- every later variable is greater than the first
 pub ascends_head : (l : Lit) (lits : List Lit) → Ascends (l ∷ lits) → (j : ℕ) (d : Lit) → j < length lits → l.var < (get_or lits j d).var

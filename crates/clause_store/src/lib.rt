@@ -9,9 +9,11 @@ pub mod line;
 pub mod lit;
 pub mod named;
 pub mod store;
+#[cfg(test)]
+mod tests;
 
 pub use laws::signs_tell_clauses;
 pub use line::{Cut, Derivation, Line};
-pub use lit::Lit;
+pub use lit::{Lit, is_ascending};
 pub use named::clause_at;
 pub use store::Store;

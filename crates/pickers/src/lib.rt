@@ -2,7 +2,15 @@
 #![tactic(auto)]
 
 pub mod first;
+pub mod last;
+pub mod most;
 pub mod picker;
+mod ranking;
+#[cfg(test)]
+mod tests;
+mod tree;
 
 pub use first::FirstOpen;
+pub use last::LastBumped;
+pub use most::MostBumped;
 pub use picker::Picker;
