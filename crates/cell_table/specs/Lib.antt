@@ -1,0 +1,3 @@
+pub mod Names
+pub mod Ternary
+pub mod Live
