@@ -1,2 +1,5 @@
-pub mod Tests
+pub mod Listed
 pub mod Tables
+pub mod Sums
+pub mod LawLemmas
+pub mod Expansion

@@ -1,5 +1,5 @@
 -- Tests over the whole table of gates and parts, which compute, and the rules that they show.
-use Rattle.std.proofs.Common.{◌≡◌, ℕ, zero, suc, Bool, true, false, ◌&&◌, List, [], ◌∷◌, get_or, length, refl, sym, ◌∙◌, ap, ◌↔◌, subst, arith}
+use Rattle.std.proofs.Common.{◌≡◌, ℕ, zero, suc, Bool, true, false, ◌&&◌, List, [], ◌∷◌, get_or, length, refl, sym, ◌∙◌, subst, arith}
 use Rattle.std.proofs.lemmas.Bool.{and_parts}
 use Rattle.std.proofs.Math.Bool.{beq}
 use Rattle.coco_base.specs.declared.cell.Kind.{Kind}
@@ -9,7 +9,7 @@ use Rattle.coco_base.specs.declared.cell.Part.TheVariants.{Zero, One, Vary}
 use Rattle.coco_model.specs.Cells.{input_places, IsForced, IsLiveInput}
 use Rattle.cell_table.specs.Ternary.{ternary}
 use Rattle.cell_table.specs.Live.{matters}
-use Rattle.cell_table.proofs.Tests.{forces_test, forced_from_test, live_test, live_from_test, test_from_live}
+use Rattle.cell_table.proofs.Listed.{forces_test, forced_from_test, live_test, live_from_test, test_from_live}
 
 -- tests over all parts, and over all kinds
 abbrev pub every_part : (Part → Bool) → Bool

@@ -1,5 +1,5 @@
 -- Which inputs of a gate matter, read off the connectives: what the code computes; that these are the live inputs is shown of it.
-use Rattle.std.specs.Prelude.{ℕ, zero, suc, Bool, true, false, not, ◌&&◌}
+use Rattle.std.specs.Prelude.{ℕ, zero, suc, Bool, true, false, ◌&&◌}
 use Rattle.coco_base.specs.declared.cell.Kind.{Kind}
 use Rattle.coco_base.specs.declared.cell.Kind.TheVariants.{Buf, Not, And, Nand, Or, Nor, Xor, Xnor, AndNot, OrNot, Mux, Nmux, Aoi3, Oai3, Aoi4, Oai4}
 use Rattle.coco_base.specs.declared.cell.Part.{Part}

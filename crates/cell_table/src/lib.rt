@@ -5,10 +5,15 @@
 mod function;
 mod kinds;
 mod known;
+pub mod laws;
 mod places;
+mod signed;
 mod ternary;
+#[cfg(test)]
+mod tests;
 
 pub use function::value;
 pub use kinds::{inputs_of, kind_of};
 pub use known::forced;
 pub use places::live;
+pub use signed::coefficient;

@@ -1,13 +1,11 @@
 -- Tests over listed input values, which compute, and the rules that they show.
-use Rattle.std.proofs.Common.{◌≡◌, ◌≢◌, ℕ, zero, suc, ◌<◌, Bool, true, false, not, ◌&&◌, ◌||◌, List, [], ◌∷◌, ◌++◌, map, length, get_or, set, refl, sym, ◌∙◌, inl, inr, ◌⊎◌, ◌↔◌, arith, Contains}
+use Rattle.std.proofs.Common.{◌≡◌, ◌≢◌, ℕ, Bool, true, false, not, ◌&&◌, ◌||◌, List, [], ◌∷◌, ◌++◌, map, get_or, set, refl, sym, ◌∙◌, inl, inr, ◌⊎◌, arith}
 use Rattle.std.proofs.lemmas.Bool.{and_parts, or_cases, true≢false, false≢true, not-true, cases_Bool, or_parts, and_from, not_from_false, both_ways}
 use Rattle.coco_base.specs.declared.cell.Kind.{Kind}
-use Rattle.coco_base.specs.declared.cell.Kind.TheVariants.{Buf, Not, And, Nand, Or, Nor, Xor, Xnor, AndNot, OrNot, Mux, Nmux, Aoi3, Oai3, Aoi4, Oai4}
 use Rattle.coco_base.specs.declared.cell.Part.{Part}
 use Rattle.coco_base.specs.declared.cell.Part.TheVariants.{Zero, One, Vary}
-use Rattle.coco_model.specs.Cells.{xor, output_of, input_places, Allows, AllowsAll, Forces, IsForced, IsLiveInput, allowed_inputs}
-use Rattle.cell_table.specs.Ternary.{ternary}
-use Rattle.cell_table.specs.Live.{varies, matters}
+use Rattle.coco_model.specs.Cells.{xor, output_of, AllowsAll, IsForced, IsLiveInput, allowed_inputs}
+use Rattle.cell_table.specs.Live.{varies}
 
 -- a test holds of each member
 abbrev pub every : {X : Type 0} → (X → Bool) → List X → Bool
