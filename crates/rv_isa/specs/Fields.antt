@@ -15,6 +15,8 @@ imm_bits imm high low = bits (cast_unsigned w32 imm) high low
 abbrev pub sign_extended : ℕ → ℕ → ℤ
 sign_extended field sign = if nat_lt field sign then pos field else pos field -ℤ pos (2 * sign)
 
+-- ---- words
+
 -- funct7 from bit 25, rs2 from 20, rs1 from 15, funct3 from 12, rd from 7, and the opcode
 abbrev pub r_word : ℕ → ℕ → ℕ → ℕ → ℕ → ℕ → ℕ
 r_word opcode rd funct3 rs1 rs2 funct7 =
@@ -45,3 +47,21 @@ abbrev pub j_word : ℕ → ℕ → ℤ → ℕ
 j_word opcode rd imm =
   imm_bits imm 20 20 * 2 ^ 31 + imm_bits imm 10 1 * 2 ^ 21 + imm_bits imm 11 11 * 2 ^ 20 + imm_bits imm 19 12 * 2 ^ 12
     + rd * 2 ^ 7 + opcode
+
+-- ---- the immediates that a word of a format holds
+
+-- imm[11:0] in bits 31 to 20
+abbrev pub i_imm : ℕ → ℤ
+i_imm word = sign_extended (bits word 31 20) (2 ^ 11)
+
+-- imm[11:5] in bits 31 to 25, imm[4:0] in bits 11 to 7
+abbrev pub s_imm : ℕ → ℤ
+s_imm word = sign_extended (bits word 31 25 * 2 ^ 5 + bits word 11 7) (2 ^ 11)
+
+-- imm[12] in bit 31, imm[11] in bit 7, imm[10:5] in bits 30 to 25, imm[4:1] in bits 11 to 8
+abbrev pub b_imm : ℕ → ℤ
+b_imm word = sign_extended (bits word 31 31 * 2 ^ 12 + bits word 7 7 * 2 ^ 11 + bits word 30 25 * 2 ^ 5 + bits word 11 8 * 2) (2 ^ 12)
+
+-- imm[20] in bit 31, imm[19:12] in bits 19 to 12, imm[11] in bit 20, imm[10:1] in bits 30 to 21
+abbrev pub j_imm : ℕ → ℤ
+j_imm word = sign_extended (bits word 31 31 * 2 ^ 20 + bits word 19 12 * 2 ^ 12 + bits word 20 20 * 2 ^ 11 + bits word 30 21 * 2) (2 ^ 20)

@@ -1,6 +1,6 @@
 -- Which instructions there are, and their words.
 -- RISC-V Unprivileged ISA, "RV32I Base Integer Instruction Set", and its table of opcodes in "RV32/64G Instruction Set Listings".
-use Rattle.std.specs.Prelude.{◌≡◌, ℕ, ◌+◌, ◌*◌, ◌^◌, ◌<◌, ◌%◌, ℤ, pos, neg_ℤ, ◌≤ℤ◌, unsigned_abs, Option, Some, None}
+use Rattle.std.specs.Prelude.{◌≡◌, ℕ, ◌+◌, ◌*◌, ◌^◌, ◌<◌, ◌%◌, ℤ, pos, neg_ℤ, ◌≤ℤ◌, unsigned_abs, Option, Some, None, IfSome}
 use Rattle.rv_isa.specs.declared.instruction.Instr.{Instr}
 use Rattle.rv_isa.specs.declared.instruction.Instr.TheVariants.{Reg, Imm, Load, Store, Branch, Lui, Auipc, Jal, Jalr, Fence, Ecall, Ebreak}
 use Rattle.rv_isa.specs.declared.instruction.RegOp.{RegOp}
@@ -111,6 +111,20 @@ Fits Ebreak = Unit {0}
 
 -- ---- words
 
+abbrev pub opcode_of : Instr → ℕ
+opcode_of (Reg op rd rs1 rs2) = 0b0110011
+opcode_of (Imm op rd rs1 imm) = 0b0010011
+opcode_of (Load op rd rs1 imm) = 0b0000011
+opcode_of (Store op rs1 rs2 imm) = 0b0100011
+opcode_of (Branch op rs1 rs2 offset) = 0b1100011
+opcode_of (Lui rd imm) = 0b0110111
+opcode_of (Auipc rd imm) = 0b0010111
+opcode_of (Jal rd offset) = 0b1101111
+opcode_of (Jalr rd rs1 imm) = 0b1100111
+opcode_of Fence = 0b0001111
+opcode_of Ecall = 0b1110011
+opcode_of Ebreak = 0b1110011
+
 -- bits 31 to 20 of an operation with this funct7: it stands above a shift amount, and else the immediate fills the field
 abbrev pub operand_field : Option ℕ → ℤ → ℕ
 operand_field (Some funct7) imm = funct7 * 2 ^ 5 + imm_bits imm 4 0
@@ -130,3 +144,9 @@ word_of (Jalr rd rs1 imm) = i_word 0b1100111 rd 0b000 rs1 (imm_bits imm 11 0)
 word_of Fence = 0x0ff0000f
 word_of Ecall = 0x00000073
 word_of Ebreak = 0x00100073
+
+-- the outcome is the instruction that fits and has this word: there is no other, and none where there is no outcome
+pub record IsDecoded (word : ℕ) (outcome : Option Instr) : Type 0 where
+  pub fits : IfSome outcome Fits
+  pub has_word : IfSome outcome (λ instr. word_of instr ≡ word)
+  pub every : (instr : Instr) → Fits instr → word_of instr ≡ word → outcome ≡ Some instr

@@ -1,5 +1,5 @@
 //! The tables of opcodes and functions, and from an instruction to its word.
-ghost use Rattle.std.specs.Prelude.{◌≡◌, ◌<◌, ◌^◌, ◌↔◌, IsTrue, IfSome};
+ghost use Rattle.std.specs.Prelude.{◌≡◌, ◌<◌, ◌^◌, ◌↔◌, IsTrue, IfSome, IsSome};
 ghost use Rattle.rv_isa.specs.Words.{branch_funct3, Fits, imm_funct3, IsBranchOffset, IsJumpOffset, IsOperand, IsShortImm, load_funct3, operand_field, reg_funct3, reg_funct7, shift_funct7, store_funct3, word_of};
 
 use crate::fields::{b_word, i_word, imm_bits, j_word, r_word, s_word, u_word};
@@ -14,6 +14,8 @@ pub(crate) const LUI: u32 = 0b0110111;
 pub(crate) const AUIPC: u32 = 0b0010111;
 pub(crate) const JAL: u32 = 0b1101111;
 pub(crate) const JALR: u32 = 0b1100111;
+pub(crate) const MISC_MEM: u32 = 0b0001111;
+pub(crate) const SYSTEM: u32 = 0b1110011;
 
 pub(crate) const FENCE_WORD: u32 = 0x0ff0000f;
 pub(crate) const ECALL_WORD: u32 = 0x00000073;
@@ -74,6 +76,12 @@ impl ImmOp {
             ImmOp::Srai => Some(0b0100000),
             _ => None,
         }
+    }
+
+    pub(crate) fn is_shift(self) -> bool
+        ensures { IsTrue result ↔ IsSome (shift_funct7 self) }
+    {
+        self.shift_funct7().is_some()
     }
 
     /// Bits 31 to 20 of the word.

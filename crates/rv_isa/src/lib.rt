@@ -5,9 +5,11 @@
 //! No call takes memory.
 #![tactic(auto)]
 
+mod decoding;
 mod encoding;
 mod fields;
 mod instruction;
 
+pub use decoding::decode;
 pub use encoding::{encode, fits};
 pub use instruction::{BranchOp, ImmOp, Instr, LoadOp, RegOp, StoreOp};
