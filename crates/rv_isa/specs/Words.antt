@@ -13,7 +13,7 @@ use Rattle.rv_isa.specs.declared.instruction.StoreOp.{StoreOp}
 use Rattle.rv_isa.specs.declared.instruction.StoreOp.TheVariants.{Sb, Sh, Sw}
 use Rattle.rv_isa.specs.declared.instruction.BranchOp.{BranchOp}
 use Rattle.rv_isa.specs.declared.instruction.BranchOp.TheVariants.{Beq, Bne, Blt, Bge, Bltu, Bgeu}
-use Rattle.rv_isa.specs.Fields.{bits, imm_bits, r_word, i_word, s_word, b_word, u_word, j_word}
+use Rattle.rv_isa.specs.Fields.{bits, i_imm, imm_bits, r_word, i_word, s_word, b_word, u_word, j_word}
 
 -- ---- the tables: funct3, and funct7 where the format has it
 
@@ -110,6 +110,11 @@ Fits Ecall = Unit {0}
 Fits Ebreak = Unit {0}
 
 -- ---- words
+
+-- the operand that a word of such an operation holds
+abbrev pub operand_at : Option ℕ → ℕ → ℤ
+operand_at (Some funct7) word = pos (bits word 24 20)
+operand_at None word = i_imm word
 
 abbrev pub opcode_of : Instr → ℕ
 opcode_of (Reg op rd rs1 rs2) = 0b0110011

@@ -1,7 +1,7 @@
 //! From a word to its instruction.
 ghost use Rattle.std.specs.Prelude.{◌≡◌, ◌⊎◌, ◌≢◌, IfNone, IfSome};
 ghost use Rattle.rv_isa.specs.Fields.{b_imm, bits, i_imm, j_imm, s_imm};
-ghost use Rattle.rv_isa.specs.Words.{branch_funct3, Fits, imm_funct3, IsDecoded, load_funct3, reg_funct3, reg_funct7, shift_funct7, store_funct3, word_of};
+ghost use Rattle.rv_isa.specs.Words.{branch_funct3, Fits, imm_funct3, IsDecoded, load_funct3, operand_at, reg_funct3, reg_funct7, shift_funct7, store_funct3, word_of};
 ghost use Rattle.rv_isa.specs.declared.instruction.Instr.{Instr};
 ghost use Rattle.rv_isa.specs.declared.instruction.RegOp.{RegOp};
 ghost use Rattle.rv_isa.specs.declared.instruction.ImmOp.{ImmOp};
@@ -56,6 +56,15 @@ impl ImmOp {
             (0b110, _) => Some(ImmOp::Ori),
             (0b111, _) => Some(ImmOp::Andi),
             _ => None,
+        }
+    }
+
+    fn operand(self, word: u32) -> i32
+        ensures { result ≡ operand_at (shift_funct7 self) word }
+    {
+        match self.shift_funct7() {
+            Some(_) => bits(word, 24, 20) as i32,
+            None => i_imm(word),
         }
     }
 }
@@ -182,8 +191,7 @@ fn decode_imm(word: u32) -> Option<Instr>
     ensures { IsDecoded word result }
 {
     let op = ImmOp::from_functs(funct3(word), funct7(word))?;
-    let imm = if op.is_shift() { bits(word, 24, 20) as i32 } else { i_imm(word) };
-    Some(Instr::Imm { op, rd: rd(word), rs1: rs1(word), imm })
+    Some(Instr::Imm { op, rd: rd(word), rs1: rs1(word), imm: op.operand(word) })
 }
 
 fn decode_load(word: u32) -> Option<Instr>

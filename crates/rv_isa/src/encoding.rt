@@ -1,5 +1,5 @@
 //! The tables of opcodes and functions, and from an instruction to its word.
-ghost use Rattle.std.specs.Prelude.{◌≡◌, ◌<◌, ◌^◌, ◌↔◌, IsTrue, IfSome, IsSome};
+ghost use Rattle.std.specs.Prelude.{◌≡◌, ◌<◌, ◌^◌, ◌↔◌, IsTrue, IfSome};
 ghost use Rattle.rv_isa.specs.Words.{branch_funct3, Fits, imm_funct3, IsBranchOffset, IsJumpOffset, IsOperand, IsShortImm, load_funct3, operand_field, reg_funct3, reg_funct7, shift_funct7, store_funct3, word_of};
 
 use crate::fields::{b_word, i_word, imm_bits, j_word, r_word, s_word, u_word};
@@ -76,12 +76,6 @@ impl ImmOp {
             ImmOp::Srai => Some(0b0100000),
             _ => None,
         }
-    }
-
-    pub(crate) fn is_shift(self) -> bool
-        ensures { IsTrue result ↔ IsSome (shift_funct7 self) }
-    {
-        self.shift_funct7().is_some()
     }
 
     /// Bits 31 to 20 of the word.
