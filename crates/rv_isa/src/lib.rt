@@ -7,9 +7,11 @@
 
 mod decoding;
 mod encoding;
+mod execution;
 mod fields;
 mod instruction;
 
 pub use decoding::decode;
 pub use encoding::{encode, fits};
+pub use execution::{Access, IsaState, request, step};
 pub use instruction::{BranchOp, ImmOp, Instr, LoadOp, RegOp, StoreOp};
