@@ -1,8 +1,7 @@
 -- No two instructions that fit have one word.
-use Rattle.std.proofs.Common.{◌≡◌, ℕ, ◌<◌, ℤ, Option, Some, None, IfSome, arith, ap, sym, ◌∙◌}
+use Rattle.std.proofs.Common.{◌≡◌, ℕ, ℤ, arith}
 use Rattle.std.proofs.lemmas.Int.{ints}
-use Rattle.rv_isa.specs.Words.{Fits, word_of, opcode_of, reg_funct3, reg_funct7, imm_funct3, shift_funct7, load_funct3, store_funct3, branch_funct3}
-use Rattle.rv_isa.proofs.Formats.{r_fields}
+use Rattle.rv_isa.specs.Words.{Fits, word_of, reg_funct3, reg_funct7, imm_funct3, shift_funct7, load_funct3, store_funct3, branch_funct3}
 use Rattle.rv_isa.specs.declared.instruction.Instr.{Instr}
 use Rattle.rv_isa.specs.declared.instruction.Instr.TheVariants.{Reg, Imm, Load, Store, Branch, Lui, Auipc, Jal, Jalr, Fence, Ecall, Ebreak}
 use Rattle.rv_isa.specs.declared.instruction.RegOp.{RegOp}

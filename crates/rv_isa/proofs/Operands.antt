@@ -22,11 +22,11 @@ pub record HoldsOperand (shift : Option ℕ) (w : ℕ) (imm : ℤ) : Type 0 wher
 pub holds_operand : (shift : Option ℕ) (w : ℕ) (imm : ℤ) → IfSome shift (λ funct7. funct7 < 128) → IsOperand shift imm → bits w 31 20 ≡ operand_field shift imm → HoldsOperand shift w imm
 holds_operand (Some funct7) w imm h7 fits e = record {
   funct7_at = omega (arith, h7);
-  imm_at = omega (arith, ints, h7)
+  imm_at = omega (arith, ints, h7);
 }
 holds_operand None w imm h7 fits e = record {
   funct7_at = tt;
-  imm_at = rw e (sign_extended-imm_bits imm fits)
+  imm_at = rw e (sign_extended-imm_bits imm fits);
 }
 
 pub shift_funct7-bound : (op : ImmOp) → IfSome (shift_funct7 op) (λ funct7. funct7 < 128)

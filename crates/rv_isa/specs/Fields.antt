@@ -20,22 +20,22 @@ sign_extended field sign = if nat_lt field sign then pos field else pos field -�
 -- funct7 from bit 25, rs2 from 20, rs1 from 15, funct3 from 12, rd from 7, and the opcode
 abbrev pub r_word : ℕ → ℕ → ℕ → ℕ → ℕ → ℕ → ℕ
 r_word opcode rd funct3 rs1 rs2 funct7 =
-  funct7 * 2 ^ 25 + rs2 * 2 ^ 20 + rs1 * 2 ^ 15 + funct3 * 2 ^ 12 + rd * 2 ^ 7 + opcode
+    funct7 * 2 ^ 25 + rs2 * 2 ^ 20 + rs1 * 2 ^ 15 + funct3 * 2 ^ 12 + rd * 2 ^ 7 + opcode
 
 -- the field of bits 31 to 20, then rs1, funct3, rd and the opcode
 abbrev pub i_word : ℕ → ℕ → ℕ → ℕ → ℕ → ℕ
 i_word opcode rd funct3 rs1 upper =
-  upper * 2 ^ 20 + rs1 * 2 ^ 15 + funct3 * 2 ^ 12 + rd * 2 ^ 7 + opcode
+    upper * 2 ^ 20 + rs1 * 2 ^ 15 + funct3 * 2 ^ 12 + rd * 2 ^ 7 + opcode
 
 -- imm[11:5], rs2, rs1, funct3, imm[4:0], opcode
 abbrev pub s_word : ℕ → ℕ → ℕ → ℕ → ℤ → ℕ
 s_word opcode funct3 rs1 rs2 imm =
-  imm_bits imm 11 5 * 2 ^ 25 + rs2 * 2 ^ 20 + rs1 * 2 ^ 15 + funct3 * 2 ^ 12 + imm_bits imm 4 0 * 2 ^ 7 + opcode
+    imm_bits imm 11 5 * 2 ^ 25 + rs2 * 2 ^ 20 + rs1 * 2 ^ 15 + funct3 * 2 ^ 12 + imm_bits imm 4 0 * 2 ^ 7 + opcode
 
 -- imm[12], imm[10:5], rs2, rs1, funct3, imm[4:1], imm[11], opcode
 abbrev pub b_word : ℕ → ℕ → ℕ → ℕ → ℤ → ℕ
 b_word opcode funct3 rs1 rs2 imm =
-  imm_bits imm 12 12 * 2 ^ 31 + imm_bits imm 10 5 * 2 ^ 25 + rs2 * 2 ^ 20 + rs1 * 2 ^ 15 + funct3 * 2 ^ 12
+    imm_bits imm 12 12 * 2 ^ 31 + imm_bits imm 10 5 * 2 ^ 25 + rs2 * 2 ^ 20 + rs1 * 2 ^ 15 + funct3 * 2 ^ 12
     + imm_bits imm 4 1 * 2 ^ 8 + imm_bits imm 11 11 * 2 ^ 7 + opcode
 
 -- imm[31:12], given as the field of 20 bits, rd, opcode
@@ -45,7 +45,7 @@ u_word opcode rd field = field * 2 ^ 12 + rd * 2 ^ 7 + opcode
 -- imm[20], imm[10:1], imm[11], imm[19:12], rd, opcode
 abbrev pub j_word : ℕ → ℕ → ℤ → ℕ
 j_word opcode rd imm =
-  imm_bits imm 20 20 * 2 ^ 31 + imm_bits imm 10 1 * 2 ^ 21 + imm_bits imm 11 11 * 2 ^ 20 + imm_bits imm 19 12 * 2 ^ 12
+    imm_bits imm 20 20 * 2 ^ 31 + imm_bits imm 10 1 * 2 ^ 21 + imm_bits imm 11 11 * 2 ^ 20 + imm_bits imm 19 12 * 2 ^ 12
     + rd * 2 ^ 7 + opcode
 
 -- ---- the immediates that a word of a format holds

@@ -108,7 +108,7 @@ is_taken Bgeu a b = not (nat_lt a b)
 abbrev pub request_of : IsaState → Instr → Access
 request_of state (Load op rd rs1 imm) = LoadFrom (moved (register state rs1) imm)
 request_of state (Store op rs1 rs2 imm) =
-  StoreTo (moved (register state rs1) imm) (store_bytes op) (store_value op (register state rs2))
+    StoreTo (moved (register state rs1) imm) (store_bytes op) (store_value op (register state rs2))
 request_of state _ = Nothing
 
 -- value goes to rd, and the next instruction follows
@@ -129,7 +129,7 @@ next_state state (Reg op rd rs1 rs2) loaded = continued state rd (reg_value op (
 next_state state (Imm op rd rs1 imm) loaded = continued state rd (imm_value op (register state rs1) imm)
 next_state state (Load op rd rs1 imm) loaded = continued state rd (load_value op loaded)
 next_state state (Branch op rs1 rs2 offset) loaded =
-  at_pc state (if is_taken op (register state rs1) (register state rs2) then moved state.pc offset else following state.pc)
+    at_pc state (if is_taken op (register state rs1) (register state rs2) then moved state.pc offset else following state.pc)
 next_state state (Lui rd imm) loaded = continued state rd (imm * 2 ^ 12)
 next_state state (Auipc rd imm) loaded = continued state rd ((state.pc + imm * 2 ^ 12) % 2 ^ 32)
 next_state state (Jal rd offset) loaded = linked state rd (moved state.pc offset)

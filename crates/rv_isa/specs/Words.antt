@@ -111,29 +111,15 @@ Fits Ebreak = Unit {0}
 
 -- ---- words
 
--- the operand that a word of such an operation holds
-abbrev pub operand_at : Option ℕ → ℕ → ℤ
-operand_at (Some funct7) word = pos (bits word 24 20)
-operand_at None word = i_imm word
-
-abbrev pub opcode_of : Instr → ℕ
-opcode_of (Reg op rd rs1 rs2) = 0b0110011
-opcode_of (Imm op rd rs1 imm) = 0b0010011
-opcode_of (Load op rd rs1 imm) = 0b0000011
-opcode_of (Store op rs1 rs2 imm) = 0b0100011
-opcode_of (Branch op rs1 rs2 offset) = 0b1100011
-opcode_of (Lui rd imm) = 0b0110111
-opcode_of (Auipc rd imm) = 0b0010111
-opcode_of (Jal rd offset) = 0b1101111
-opcode_of (Jalr rd rs1 imm) = 0b1100111
-opcode_of Fence = 0b0001111
-opcode_of Ecall = 0b1110011
-opcode_of Ebreak = 0b1110011
-
 -- bits 31 to 20 of an operation with this funct7: it stands above a shift amount, and else the immediate fills the field
 abbrev pub operand_field : Option ℕ → ℤ → ℕ
 operand_field (Some funct7) imm = funct7 * 2 ^ 5 + imm_bits imm 4 0
 operand_field None imm = imm_bits imm 11 0
+
+-- the operand that a word of such an operation holds
+abbrev pub operand_at : Option ℕ → ℕ → ℤ
+operand_at (Some funct7) word = pos (bits word 24 20)
+operand_at None word = i_imm word
 
 -- the word of an instruction; `fence` has all bits of its sets of accesses set
 abbrev pub word_of : Instr → ℕ
@@ -155,3 +141,7 @@ pub record IsDecoded (word : ℕ) (outcome : Option Instr) : Type 0 where
   pub fits : IfSome outcome Fits
   pub has_word : IfSome outcome (λ instr. word_of instr ≡ word)
   pub every : (instr : Instr) → Fits instr → word_of instr ≡ word → outcome ≡ Some instr
+
+-- two instructions that fit and have one word are one instruction
+abbrev pub WordsAreDistinct : Type 0
+WordsAreDistinct = (i j : Instr) → Fits i → Fits j → word_of i ≡ word_of j → i ≡ j

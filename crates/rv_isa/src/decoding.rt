@@ -183,7 +183,12 @@ fn decode_reg(word: u32) -> Option<Instr>
     ensures { IsDecoded word result }
 {
     let op = RegOp::from_functs(funct3(word), funct7(word))?;
-    Some(Instr::Reg { op, rd: rd(word), rs1: rs1(word), rs2: rs2(word) })
+    Some(Instr::Reg {
+        op,
+        rd: rd(word),
+        rs1: rs1(word),
+        rs2: rs2(word),
+    })
 }
 
 fn decode_imm(word: u32) -> Option<Instr>
@@ -191,7 +196,12 @@ fn decode_imm(word: u32) -> Option<Instr>
     ensures { IsDecoded word result }
 {
     let op = ImmOp::from_functs(funct3(word), funct7(word))?;
-    Some(Instr::Imm { op, rd: rd(word), rs1: rs1(word), imm: op.operand(word) })
+    Some(Instr::Imm {
+        op,
+        rd: rd(word),
+        rs1: rs1(word),
+        imm: op.operand(word),
+    })
 }
 
 fn decode_load(word: u32) -> Option<Instr>
@@ -199,7 +209,12 @@ fn decode_load(word: u32) -> Option<Instr>
     ensures { IsDecoded word result }
 {
     let op = LoadOp::from_funct3(funct3(word))?;
-    Some(Instr::Load { op, rd: rd(word), rs1: rs1(word), imm: i_imm(word) })
+    Some(Instr::Load {
+        op,
+        rd: rd(word),
+        rs1: rs1(word),
+        imm: i_imm(word),
+    })
 }
 
 fn decode_store(word: u32) -> Option<Instr>
@@ -207,7 +222,12 @@ fn decode_store(word: u32) -> Option<Instr>
     ensures { IsDecoded word result }
 {
     let op = StoreOp::from_funct3(funct3(word))?;
-    Some(Instr::Store { op, rs1: rs1(word), rs2: rs2(word), imm: s_imm(word) })
+    Some(Instr::Store {
+        op,
+        rs1: rs1(word),
+        rs2: rs2(word),
+        imm: s_imm(word),
+    })
 }
 
 fn decode_branch(word: u32) -> Option<Instr>
@@ -215,28 +235,42 @@ fn decode_branch(word: u32) -> Option<Instr>
     ensures { IsDecoded word result }
 {
     let op = BranchOp::from_funct3(funct3(word))?;
-    Some(Instr::Branch { op, rs1: rs1(word), rs2: rs2(word), offset: b_imm(word) })
+    Some(Instr::Branch {
+        op,
+        rs1: rs1(word),
+        rs2: rs2(word),
+        offset: b_imm(word),
+    })
 }
 
 fn decode_lui(word: u32) -> Option<Instr>
     requires { bits word 6 0 ≡ LUI }
     ensures { IsDecoded word result }
 {
-    Some(Instr::Lui { rd: rd(word), imm: bits(word, 31, 12) })
+    Some(Instr::Lui {
+        rd: rd(word),
+        imm: bits(word, 31, 12),
+    })
 }
 
 fn decode_auipc(word: u32) -> Option<Instr>
     requires { bits word 6 0 ≡ AUIPC }
     ensures { IsDecoded word result }
 {
-    Some(Instr::Auipc { rd: rd(word), imm: bits(word, 31, 12) })
+    Some(Instr::Auipc {
+        rd: rd(word),
+        imm: bits(word, 31, 12),
+    })
 }
 
 fn decode_jal(word: u32) -> Option<Instr>
     requires { bits word 6 0 ≡ JAL }
     ensures { IsDecoded word result }
 {
-    Some(Instr::Jal { rd: rd(word), offset: j_imm(word) })
+    Some(Instr::Jal {
+        rd: rd(word),
+        offset: j_imm(word),
+    })
 }
 
 fn decode_jalr(word: u32) -> Option<Instr>
@@ -244,7 +278,11 @@ fn decode_jalr(word: u32) -> Option<Instr>
     ensures { IsDecoded word result }
 {
     if funct3(word) == 0b000 {
-        Some(Instr::Jalr { rd: rd(word), rs1: rs1(word), imm: i_imm(word) })
+        Some(Instr::Jalr {
+            rd: rd(word),
+            rs1: rs1(word),
+            imm: i_imm(word),
+        })
     } else {
         None
     }

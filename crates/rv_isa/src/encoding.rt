@@ -1,24 +1,36 @@
 //! The tables of opcodes and functions, and from an instruction to its word.
 ghost use Rattle.std.specs.Prelude.{◌≡◌, ◌<◌, ◌^◌, ◌↔◌, IsTrue, IfSome};
-ghost use Rattle.rv_isa.specs.Words.{branch_funct3, Fits, imm_funct3, IsBranchOffset, IsJumpOffset, IsOperand, IsShortImm, load_funct3, operand_field, reg_funct3, reg_funct7, shift_funct7, store_funct3, word_of};
+ghost use Rattle.rv_isa.specs.Words.{branch_funct3, Fits, imm_funct3, IsBranchOffset, IsJumpOffset, IsOperand, IsShortImm, load_funct3, operand_field, reg_funct3, reg_funct7, shift_funct7, store_funct3, word_of, WordsAreDistinct};
 
 use crate::fields::{b_word, i_word, imm_bits, j_word, r_word, s_word, u_word};
 use crate::instruction::{BranchOp, ImmOp, Instr, LoadOp, RegOp, StoreOp};
 
 pub(crate) const REG: u32 = 0b0110011;
+
 pub(crate) const IMM: u32 = 0b0010011;
+
 pub(crate) const LOAD: u32 = 0b0000011;
+
 pub(crate) const STORE: u32 = 0b0100011;
+
 pub(crate) const BRANCH: u32 = 0b1100011;
+
 pub(crate) const LUI: u32 = 0b0110111;
+
 pub(crate) const AUIPC: u32 = 0b0010111;
+
 pub(crate) const JAL: u32 = 0b1101111;
+
 pub(crate) const JALR: u32 = 0b1100111;
+
 pub(crate) const MISC_MEM: u32 = 0b0001111;
+
 pub(crate) const SYSTEM: u32 = 0b1110011;
 
 pub(crate) const FENCE_WORD: u32 = 0x0ff0000f;
+
 pub(crate) const ECALL_WORD: u32 = 0x00000073;
+
 pub(crate) const EBREAK_WORD: u32 = 0x00100073;
 
 impl RegOp {
@@ -170,13 +182,31 @@ pub fn fits(instr: Instr) -> bool
     ensures { IsTrue result ↔ Fits instr }
 {
     match instr {
-        Instr::Reg { op: _, rd, rs1, rs2 } => rd < 32 && rs1 < 32 && rs2 < 32,
+        Instr::Reg {
+            op: _,
+            rd,
+            rs1,
+            rs2,
+        } => rd < 32 && rs1 < 32 && rs2 < 32,
         Instr::Imm { op, rd, rs1, imm } => rd < 32 && rs1 < 32 && op.is_operand(imm),
-        Instr::Load { op: _, rd, rs1, imm } => rd < 32 && rs1 < 32 && is_short_imm(imm),
-        Instr::Store { op: _, rs1, rs2, imm } => rs1 < 32 && rs2 < 32 && is_short_imm(imm),
-        Instr::Branch { op: _, rs1, rs2, offset } => {
-            rs1 < 32 && rs2 < 32 && is_branch_offset(offset)
-        }
+        Instr::Load {
+            op: _,
+            rd,
+            rs1,
+            imm,
+        } => rd < 32 && rs1 < 32 && is_short_imm(imm),
+        Instr::Store {
+            op: _,
+            rs1,
+            rs2,
+            imm,
+        } => rs1 < 32 && rs2 < 32 && is_short_imm(imm),
+        Instr::Branch {
+            op: _,
+            rs1,
+            rs2,
+            offset,
+        } => { rs1 < 32 && rs2 < 32 && is_branch_offset(offset) }
         Instr::Lui { rd, imm } => rd < 32 && imm < 1 << 20,
         Instr::Auipc { rd, imm } => rd < 32 && imm < 1 << 20,
         Instr::Jal { rd, offset } => rd < 32 && is_jump_offset(offset),
@@ -199,7 +229,12 @@ pub fn encode(instr: Instr) -> u32
             i_word(LOAD, rd, op.funct3(), rs1, imm_bits(imm, 11, 0))
         }
         Instr::Store { op, rs1, rs2, imm } => s_word(STORE, op.funct3(), rs1, rs2, imm),
-        Instr::Branch { op, rs1, rs2, offset } => b_word(BRANCH, op.funct3(), rs1, rs2, offset),
+        Instr::Branch {
+            op,
+            rs1,
+            rs2,
+            offset,
+        } => b_word(BRANCH, op.funct3(), rs1, rs2, offset),
         Instr::Lui { rd, imm } => u_word(LUI, rd, imm),
         Instr::Auipc { rd, imm } => u_word(AUIPC, rd, imm),
         Instr::Jal { rd, offset } => j_word(JAL, rd, offset),
@@ -209,3 +244,8 @@ pub fn encode(instr: Instr) -> u32
         Instr::Ebreak => EBREAK_WORD,
     }
 }
+
+/// A law of the tables, with nothing to run: two instructions that fit and have one word are one instruction.
+pub fn words_are_distinct()
+    ensures { WordsAreDistinct }
+{}

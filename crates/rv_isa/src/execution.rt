@@ -177,8 +177,15 @@ pub fn request(state: &IsaState, instr: Instr) -> Access
     ensures { result ≡ request_of state.now instr }
 {
     match instr {
-        Instr::Load { op: _, rd: _, rs1, imm } => {
-            Access::Load { address: moved(state.register(rs1), imm) }
+        Instr::Load {
+            op: _,
+            rd: _,
+            rs1,
+            imm,
+        } => {
+            Access::Load {
+                address: moved(state.register(rs1), imm),
+            }
         }
         Instr::Store { op, rs1, rs2, imm } => Access::Store {
             address: moved(state.register(rs1), imm),
@@ -203,10 +210,24 @@ pub fn step(state: &IsaState, instr: Instr, loaded: u32) -> IsaState
         Instr::Imm { op, rd, rs1, imm } => {
             state.continued(rd, op.apply(state.register(rs1), imm))
         }
-        Instr::Load { op, rd, rs1: _, imm: _ } => state.continued(rd, op.extended(loaded)),
-        Instr::Branch { op, rs1, rs2, offset } => {
+        Instr::Load {
+            op,
+            rd,
+            rs1: _,
+            imm: _,
+        } => state.continued(rd, op.extended(loaded)),
+        Instr::Branch {
+            op,
+            rs1,
+            rs2,
+            offset,
+        } => {
             let is_taken = op.is_taken(state.register(rs1), state.register(rs2));
-            state.at_pc(if is_taken { moved(state.pc, offset) } else { state.following() })
+            state.at_pc(if is_taken {
+                moved(state.pc, offset)
+            } else {
+                state.following()
+            })
         }
         Instr::Lui { rd, imm } => state.continued(rd, imm << 12),
         Instr::Auipc { rd, imm } => state.continued(rd, state.pc.wrapping_add(imm << 12)),

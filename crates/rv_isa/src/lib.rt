@@ -12,6 +12,9 @@ mod fields;
 mod instruction;
 
 pub use decoding::decode;
-pub use encoding::{encode, fits};
+pub use encoding::{encode, fits, words_are_distinct};
 pub use execution::{Access, IsaState, request, step};
 pub use instruction::{BranchOp, ImmOp, Instr, LoadOp, RegOp, StoreOp};
+
+#[cfg(test)]
+mod tests;

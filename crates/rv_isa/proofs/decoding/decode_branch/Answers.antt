@@ -8,5 +8,5 @@ pub returns : goal.returns
 returns c = record {
   fits = grind (arith, common_steps, to_z-of_z, sign_extended-branch);
   has_word = grind (arith, common_steps, to_z-of_z, b_word-bits);
-  every = λ i f e. grind (arith, common_steps, to_z-of_z, b_fields)
+  every = λ i f e. grind (arith, common_steps, to_z-of_z, b_fields);
 }

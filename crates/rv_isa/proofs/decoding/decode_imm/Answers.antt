@@ -9,5 +9,5 @@ pub returns : goal.returns
 returns c = record {
   fits = grind (arith, common_steps, to_z-of_z, operand_fits);
   has_word = grind (arith, common_steps, to_z-of_z, i_word-bits, operand_field-operand_at);
-  every = λ i f e. grind (arith, common_steps, to_z-of_z, i_fields, holds_operand, shift_funct7-bound)
+  every = λ i f e. grind (arith, common_steps, to_z-of_z, i_fields, holds_operand, shift_funct7-bound);
 }
