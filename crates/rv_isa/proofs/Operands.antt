@@ -1,5 +1,5 @@
 -- The operand of an operation with an immediate, and bits 31 to 20 of its word, determine each other.
-use Rattle.std.proofs.Common.{◌≡◌, ℕ, ◌<◌, ℤ, Option, Some, None, IfSome, arith, ap, sym, ◌∙◌}
+use Rattle.std.proofs.Common.{◌≡◌, ℕ, ◌<◌, ℤ, Option, Some, None, IfSome, arith}
 use Rattle.std.proofs.lemmas.Int.{ints}
 use Rattle.rv_isa.specs.Fields.{bits}
 use Rattle.rv_isa.specs.Words.{IsOperand, operand_field, operand_at, shift_funct7}

@@ -36,6 +36,10 @@ written x (suc rd) value = slice_set x (suc rd) value
 abbrev pub moved : ℕ → ℤ → ℕ
 moved a imm = (a + cast_unsigned w32 imm) % 2 ^ 32
 
+-- where `jalr` goes: the lowest bit of the sum is cleared
+abbrev pub jalr_target : ℕ → ℤ → ℕ
+jalr_target a imm = moved a imm / 2 * 2
+
 -- the address of the instruction that follows in memory
 abbrev pub following : ℕ → ℕ
 following pc = (pc + 4) % 2 ^ 32
@@ -133,5 +137,5 @@ next_state state (Branch op rs1 rs2 offset) loaded =
 next_state state (Lui rd imm) loaded = continued state rd (imm * 2 ^ 12)
 next_state state (Auipc rd imm) loaded = continued state rd ((state.pc + imm * 2 ^ 12) % 2 ^ 32)
 next_state state (Jal rd offset) loaded = linked state rd (moved state.pc offset)
-next_state state (Jalr rd rs1 imm) loaded = linked state rd (moved (register state rs1) imm / 2 * 2)
+next_state state (Jalr rd rs1 imm) loaded = linked state rd (jalr_target (register state rs1) imm)
 next_state state _ loaded = at_pc state (following state.pc)

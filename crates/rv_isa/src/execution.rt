@@ -1,6 +1,6 @@
 //! What one instruction does.
 ghost use Rattle.std.specs.Prelude.{◌≡◌, ◌+◌, ◌*◌, ◌%◌, ◌<◌, ◌≤◌, ◌^◌, slice_index};
-ghost use Rattle.rv_isa.specs.Steps.{at_pc, continued, following, imm_value, is_taken, linked, load_value, moved, next_state, on_registers, reg_value, register, request_of, store_bytes, store_value, written};
+ghost use Rattle.rv_isa.specs.Steps.{at_pc, continued, following, imm_value, is_taken, jalr_target, linked, load_value, moved, next_state, on_registers, reg_value, register, request_of, store_bytes, store_value, written};
 ghost use Rattle.rv_isa.specs.Words.{Fits};
 
 use crate::fields::sign_extended;
@@ -122,6 +122,13 @@ fn moved(from: u32, imm: i32) -> u32
     from.wrapping_add(imm.cast_unsigned())
 }
 
+/// The target of `jalr`, with the lowest bit cleared.
+fn jalr_target(from: u32, imm: i32) -> u32
+    ensures { result ≡ jalr_target from imm }
+{
+    moved(from, imm) / 2 * 2
+}
+
 impl IsaState {
     fn register(&self, r: u8) -> u32
         requires r { r < 32 }
@@ -232,9 +239,7 @@ pub fn step(state: &IsaState, instr: Instr, loaded: u32) -> IsaState
         Instr::Lui { rd, imm } => state.continued(rd, imm << 12),
         Instr::Auipc { rd, imm } => state.continued(rd, state.pc.wrapping_add(imm << 12)),
         Instr::Jal { rd, offset } => state.linked(rd, moved(state.pc, offset)),
-        Instr::Jalr { rd, rs1, imm } => {
-            state.linked(rd, moved(state.register(rs1), imm) / 2 * 2)
-        }
+        Instr::Jalr { rd, rs1, imm } => state.linked(rd, jalr_target(state.register(rs1), imm)),
         Instr::Store { .. } | Instr::Fence | Instr::Ecall | Instr::Ebreak => {
             state.at_pc(state.following())
         }

@@ -1,5 +1,5 @@
-use Rattle.std.proofs.Common.{rules, arith}
-use Rattle.std.proofs.lemmas.Int.{ints, to_z-of_z}
+use Rattle.std.proofs.Common.{arith}
+use Rattle.std.proofs.lemmas.Int.{to_z-of_z}
 use Rattle.std.proofs.lemmas.Grind.{common_steps}
 use Rattle.rv_isa.proofs.Formats.{b_word-bits, sign_extended-branch, b_fields}
 use Rattle.rv_isa.proofs.decoding.decode_branch.Goals as goal

@@ -1,5 +1,5 @@
-use Rattle.std.proofs.Common.{rules, arith}
-use Rattle.std.proofs.lemmas.Int.{ints, to_z-of_z}
+use Rattle.std.proofs.Common.{arith}
+use Rattle.std.proofs.lemmas.Int.{to_z-of_z}
 use Rattle.std.proofs.lemmas.Grind.{common_steps}
 use Rattle.rv_isa.proofs.Formats.{i_word-bits, i_fields}
 use Rattle.rv_isa.proofs.Operands.{operand_fits, operand_field-operand_at, holds_operand, shift_funct7-bound}
