@@ -1,20 +1,20 @@
 -- A word of a format and its fields determine each other.
 use Rattle.std.proofs.Common.{◌≡◌, ℕ, ◌+◌, ◌*◌, ◌<◌, ◌^◌, ℤ, arith}
 use Rattle.std.proofs.lemmas.Int.{ints}
-use Rattle.rv_isa.specs.Fields.{bits, imm_bits, sign_extended, b_imm, i_word, b_word}
+use Rattle.rv_isa.specs.Fields.{bits, imm_bits, sign_extension, b_imm, i_word, b_word}
 use Rattle.rv_isa.specs.Words.{IsShortImm, IsBranchOffset}
 
 -- ---- immediates of 12 bits
 
-pub imm_bits-sign_extended : (n : ℕ) → n < 2 ^ 12 → imm_bits (sign_extended n 2048) 11 0 ≡ n
-imm_bits-sign_extended n h = grind (arith, ints)
+pub imm_bits-sign_extension : (n : ℕ) → n < 2 ^ 12 → imm_bits (sign_extension n 2048) 11 0 ≡ n
+imm_bits-sign_extension n h = grind (arith, ints)
 
-pub sign_extended-imm_bits : (imm : ℤ) → IsShortImm imm → sign_extended (imm_bits imm 11 0) 2048 ≡ imm
-sign_extended-imm_bits imm h = grind (arith, ints)
+pub sign_extension-imm_bits : (imm : ℤ) → IsShortImm imm → sign_extension (imm_bits imm 11 0) 2048 ≡ imm
+sign_extension-imm_bits imm h = grind (arith, ints)
 
 -- the number of a field of 12 bits is an immediate
-pub sign_extended-short : (n : ℕ) → n < 2 ^ 12 → IsShortImm (sign_extended n 2048)
-sign_extended-short n h = (grind (arith, ints), grind (arith, ints))
+pub sign_extension-short : (n : ℕ) → n < 2 ^ 12 → IsShortImm (sign_extension n 2048)
+sign_extension-short n h = (grind (arith, ints), grind (arith, ints))
 
 -- ---- format I
 
@@ -47,12 +47,12 @@ b_word-bits w h =
     let low : imm_bits (b_imm w) 4 1 ≡ bits w 11 8 = grind (arith, ints) in
     omega arith
 
-pub sign_extended-branch : (w : ℕ) → IsBranchOffset (b_imm w)
-sign_extended-branch w = ((grind (arith, ints), grind (arith, ints)), grind (arith, ints))
+pub sign_extension-branch : (w : ℕ) → IsBranchOffset (b_imm w)
+sign_extension-branch w = ((grind (arith, ints), grind (arith, ints)), grind (arith, ints))
 
 -- the bits that format B keeps give the offset back
-pub sign_extended-branch_bits : (imm : ℤ) → IsBranchOffset imm → sign_extended (imm_bits imm 12 12 * 2 ^ 12 + imm_bits imm 11 11 * 2 ^ 11 + imm_bits imm 10 5 * 2 ^ 5 + imm_bits imm 4 1 * 2) 4096 ≡ imm
-sign_extended-branch_bits imm h = grind (arith, ints)
+pub sign_extension-branch_bits : (imm : ℤ) → IsBranchOffset imm → sign_extension (imm_bits imm 12 12 * 2 ^ 12 + imm_bits imm 11 11 * 2 ^ 11 + imm_bits imm 10 5 * 2 ^ 5 + imm_bits imm 4 1 * 2) 4096 ≡ imm
+sign_extension-branch_bits imm h = grind (arith, ints)
 
 pub record BFields (w opcode funct3 rs1 rs2 : ℕ) (imm : ℤ) : Type 0 where
   pub opcode_at : bits w 6 0 ≡ opcode
@@ -69,5 +69,5 @@ b_fields w opcode funct3 rs1 rs2 imm ho h3 h1 h2 hi e =
       funct3_at = omega arith;
       rs1_at = omega arith;
       rs2_at = omega arith;
-      imm_at = rw joined (sign_extended-branch_bits imm hi);
+      imm_at = rw joined (sign_extension-branch_bits imm hi);
     }

@@ -3,17 +3,17 @@ use Rattle.std.proofs.Common.{◌≡◌, ℕ, ◌<◌, ℤ, Option, Some, None, 
 use Rattle.std.proofs.lemmas.Int.{ints}
 use Rattle.rv_isa.specs.Fields.{bits}
 use Rattle.rv_isa.specs.Words.{IsOperand, operand_field, operand_at, shift_funct7}
-use Rattle.rv_isa.proofs.Formats.{sign_extended-imm_bits, imm_bits-sign_extended, sign_extended-short}
+use Rattle.rv_isa.proofs.Formats.{sign_extension-imm_bits, imm_bits-sign_extension, sign_extension-short}
 use Rattle.rv_isa.specs.declared.instruction.ImmOp.{ImmOp}
 use Rattle.rv_isa.specs.declared.instruction.ImmOp.TheVariants.{Addi}
 
 pub operand_fits : (shift : Option ℕ) (w : ℕ) → IsOperand shift (operand_at shift w)
 operand_fits (Some funct7) w = (grind (arith, ints), grind (arith, ints))
-operand_fits None w = sign_extended-short (bits w 31 20) (omega arith)
+operand_fits None w = sign_extension-short (bits w 31 20) (omega arith)
 
 pub operand_field-operand_at : (shift : Option ℕ) (w : ℕ) → IfSome shift (λ funct7. funct7 ≡ bits w 31 25) → operand_field shift (operand_at shift w) ≡ bits w 31 20
 operand_field-operand_at (Some funct7) w h = omega (arith, h)
-operand_field-operand_at None w h = imm_bits-sign_extended (bits w 31 20) (omega arith)
+operand_field-operand_at None w h = imm_bits-sign_extension (bits w 31 20) (omega arith)
 
 pub record HoldsOperand (shift : Option ℕ) (w : ℕ) (imm : ℤ) : Type 0 where
   pub funct7_at : IfSome shift (λ funct7. funct7 ≡ bits w 31 25)
@@ -26,7 +26,7 @@ holds_operand (Some funct7) w imm h7 fits e = record {
 }
 holds_operand None w imm h7 fits e = record {
   funct7_at = tt;
-  imm_at = rw e (sign_extended-imm_bits imm fits);
+  imm_at = rw e (sign_extension-imm_bits imm fits);
 }
 
 pub shift_funct7-bound : (op : ImmOp) → IfSome (shift_funct7 op) (λ funct7. funct7 < 128)

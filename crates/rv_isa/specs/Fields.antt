@@ -12,8 +12,8 @@ abbrev pub imm_bits : ℤ → ℕ → ℕ → ℕ
 imm_bits imm high low = bits (cast_unsigned w32 imm) high low
 
 -- the number that a field holds in two's complement, where sign is the worth of its highest bit
-abbrev pub sign_extended : ℕ → ℕ → ℤ
-sign_extended field sign = if nat_lt field sign then pos field else pos field -ℤ pos (2 * sign)
+abbrev pub sign_extension : ℕ → ℕ → ℤ
+sign_extension field sign = if nat_lt field sign then pos field else pos field -ℤ pos (2 * sign)
 
 -- ---- words
 
@@ -52,16 +52,16 @@ j_word opcode rd imm =
 
 -- imm[11:0] in bits 31 to 20
 abbrev pub i_imm : ℕ → ℤ
-i_imm word = sign_extended (bits word 31 20) (2 ^ 11)
+i_imm word = sign_extension (bits word 31 20) (2 ^ 11)
 
 -- imm[11:5] in bits 31 to 25, imm[4:0] in bits 11 to 7
 abbrev pub s_imm : ℕ → ℤ
-s_imm word = sign_extended (bits word 31 25 * 2 ^ 5 + bits word 11 7) (2 ^ 11)
+s_imm word = sign_extension (bits word 31 25 * 2 ^ 5 + bits word 11 7) (2 ^ 11)
 
 -- imm[12] in bit 31, imm[11] in bit 7, imm[10:5] in bits 30 to 25, imm[4:1] in bits 11 to 8
 abbrev pub b_imm : ℕ → ℤ
-b_imm word = sign_extended (bits word 31 31 * 2 ^ 12 + bits word 7 7 * 2 ^ 11 + bits word 30 25 * 2 ^ 5 + bits word 11 8 * 2) (2 ^ 12)
+b_imm word = sign_extension (bits word 31 31 * 2 ^ 12 + bits word 7 7 * 2 ^ 11 + bits word 30 25 * 2 ^ 5 + bits word 11 8 * 2) (2 ^ 12)
 
 -- imm[20] in bit 31, imm[19:12] in bits 19 to 12, imm[11] in bit 20, imm[10:1] in bits 30 to 21
 abbrev pub j_imm : ℕ → ℤ
-j_imm word = sign_extended (bits word 31 31 * 2 ^ 20 + bits word 19 12 * 2 ^ 12 + bits word 20 20 * 2 ^ 11 + bits word 30 21 * 2) (2 ^ 20)
+j_imm word = sign_extension (bits word 31 31 * 2 ^ 20 + bits word 19 12 * 2 ^ 12 + bits word 20 20 * 2 ^ 11 + bits word 30 21 * 2) (2 ^ 20)

@@ -4,7 +4,7 @@
 use Rattle.std.specs.Prelude.{ℕ, zero, suc, ◌+◌, ◌-◌, ◌*◌, ◌/◌, ◌%◌, ◌^◌, ℤ, Bool, not, List, slice_index, slice_set, nat_lt, ◌==◌, int_lt, if◌then◌else◌, bit_and, bit_or, bit_xor}
 use Rattle.std.specs.Int.{w32, cast_unsigned, cast_signed, int_shr}
 use Rattle.rv_isa.specs.declared.instruction.Instr.{Instr}
-use Rattle.rv_isa.specs.declared.instruction.Instr.TheVariants.{Reg, Imm, Load, Store, Branch, Lui, Auipc, Jal, Jalr}
+use Rattle.rv_isa.specs.declared.instruction.Instr.TheVariants.{Reg, Imm, Load, Store, Branch, Lui, Auipc, Jal, Jalr, Fence, Ecall, Ebreak}
 use Rattle.rv_isa.specs.declared.instruction.RegOp.{RegOp}
 use Rattle.rv_isa.specs.declared.instruction.RegOp.TheVariants.{Add, Sub, Sll, Slt, Sltu, Xor, Srl, Sra, Or, And}
 use Rattle.rv_isa.specs.declared.instruction.ImmOp.{ImmOp}
@@ -18,48 +18,45 @@ use Rattle.rv_isa.specs.declared.instruction.BranchOp.TheVariants.{Beq, Bne, Blt
 use Rattle.rv_isa.specs.declared.execution.IsaState.{IsaState}
 use Rattle.rv_isa.specs.declared.execution.Access.{Access}
 use Rattle.rv_isa.specs.declared.execution.Access.TheVariants.{Nothing, Load as LoadFrom, Store as StoreTo}
-use Rattle.rv_isa.specs.Fields.{sign_extended}
+use Rattle.rv_isa.specs.Fields.{sign_extension}
 
--- ---- registers and addresses
+-- ---- registers and addresses ("Programmers' Model for Base Integer ISA")
 
 -- what register r holds: x0 is 0
 abbrev pub register : IsaState → ℕ → ℕ
 register state zero = 0
 register state (suc r) = slice_index state.x (suc r)
 
--- the registers once value is written to rd: a write to x0 is lost
-abbrev pub written : List ℕ → ℕ → ℕ → List ℕ
-written x zero value = x
-written x (suc rd) value = slice_set x (suc rd) value
+-- the registers x once rd holds value: a write to x0 is lost
+abbrev pub registers_with : List ℕ → ℕ → ℕ → List ℕ
+registers_with x zero value = x
+registers_with x (suc rd) value = slice_set x (suc rd) value
 
 -- a plus a signed immediate, modulo 2^32
-abbrev pub moved : ℕ → ℤ → ℕ
-moved a imm = (a + cast_unsigned w32 imm) % 2 ^ 32
-
--- where `jalr` goes: the lowest bit of the sum is cleared
-abbrev pub jalr_target : ℕ → ℤ → ℕ
-jalr_target a imm = moved a imm / 2 * 2
+abbrev pub plus_imm : ℕ → ℤ → ℕ
+plus_imm a imm = (a + cast_unsigned w32 imm) % 2 ^ 32
 
 -- the address of the instruction that follows in memory
-abbrev pub following : ℕ → ℕ
-following pc = (pc + 4) % 2 ^ 32
+abbrev pub next_pc : ℕ → ℕ
+next_pc pc = (pc + 4) % 2 ^ 32
 
 -- the number that a register's bits are in two's complement
-abbrev pub signed : ℕ → ℤ
-signed a = cast_signed w32 a
+abbrev pub signed_value : ℕ → ℤ
+signed_value a = cast_signed w32 a
 
--- ---- operations
+-- ---- operations ("Integer Computational Instructions")
 
--- what an operation gives on two registers' values; a shift takes the low five bits of the second
+-- what an operation gives on two registers' values: a shift takes the low five bits of the second, and `sra` divides the
+-- signed value by a power of two, rounded down
 abbrev pub reg_value : RegOp → ℕ → ℕ → ℕ
 reg_value Add a b = (a + b) % 2 ^ 32
 reg_value Sub a b = (a + (2 ^ 32 - b)) % 2 ^ 32
 reg_value Sll a b = (a * 2 ^ (b % 32)) % 2 ^ 32
-reg_value Slt a b = if int_lt (signed a) (signed b) then 1 else 0
+reg_value Slt a b = if int_lt (signed_value a) (signed_value b) then 1 else 0
 reg_value Sltu a b = if nat_lt a b then 1 else 0
 reg_value Xor a b = bit_xor a b
 reg_value Srl a b = a / 2 ^ (b % 32)
-reg_value Sra a b = cast_unsigned w32 (int_shr (signed a) (b % 32))
+reg_value Sra a b = cast_unsigned w32 (int_shr (signed_value a) (b % 32))
 reg_value Or a b = bit_or a b
 reg_value And a b = bit_and a b
 
@@ -79,10 +76,12 @@ on_registers Srai = Sra
 abbrev pub imm_value : ImmOp → ℕ → ℤ → ℕ
 imm_value op a imm = reg_value (on_registers op) a (cast_unsigned w32 imm)
 
+-- ---- loads and stores ("Load and Store Instructions")
+
 -- what a load puts into its register, where the addressed bytes are the low ones of `loaded`
 abbrev pub load_value : LoadOp → ℕ → ℕ
-load_value Lb loaded = cast_unsigned w32 (sign_extended (loaded % 2 ^ 8) (2 ^ 7))
-load_value Lh loaded = cast_unsigned w32 (sign_extended (loaded % 2 ^ 16) (2 ^ 15))
+load_value Lb loaded = cast_unsigned w32 (sign_extension (loaded % 2 ^ 8) (2 ^ 7))
+load_value Lh loaded = cast_unsigned w32 (sign_extension (loaded % 2 ^ 16) (2 ^ 15))
 load_value Lw loaded = loaded
 load_value Lbu loaded = loaded % 2 ^ 8
 load_value Lhu loaded = loaded % 2 ^ 16
@@ -97,45 +96,54 @@ store_bytes Sw = 4
 abbrev pub store_value : StoreOp → ℕ → ℕ
 store_value op value = value % 2 ^ (8 * store_bytes op)
 
+-- ---- branches and jumps ("Control Transfer Instructions")
+
 -- whether the branch is taken at these values of its registers
 abbrev pub is_taken : BranchOp → ℕ → ℕ → Bool
 is_taken Beq a b = a == b
 is_taken Bne a b = not (a == b)
-is_taken Blt a b = int_lt (signed a) (signed b)
-is_taken Bge a b = not (int_lt (signed a) (signed b))
+is_taken Blt a b = int_lt (signed_value a) (signed_value b)
+is_taken Bge a b = not (int_lt (signed_value a) (signed_value b))
 is_taken Bltu a b = nat_lt a b
 is_taken Bgeu a b = not (nat_lt a b)
+
+-- where `jalr` goes: the lowest bit of the sum is cleared
+abbrev pub jalr_target : ℕ → ℤ → ℕ
+jalr_target a imm = plus_imm a imm / 2 * 2
 
 -- ---- instructions
 
 -- the access that an instruction makes
 abbrev pub request_of : IsaState → Instr → Access
-request_of state (Load op rd rs1 imm) = LoadFrom (moved (register state rs1) imm)
+request_of state (Load op rd rs1 imm) = LoadFrom (plus_imm (register state rs1) imm)
 request_of state (Store op rs1 rs2 imm) =
-    StoreTo (moved (register state rs1) imm) (store_bytes op) (store_value op (register state rs2))
+    StoreTo (plus_imm (register state rs1) imm) (store_bytes op) (store_value op (register state rs2))
 request_of state _ = Nothing
 
 -- value goes to rd, and the next instruction follows
-abbrev pub continued : IsaState → ℕ → ℕ → IsaState
-continued state rd value = record { pc = following state.pc; x = written state.x rd value }
+abbrev pub state_with_value : IsaState → ℕ → ℕ → IsaState
+state_with_value state rd value = record { pc = next_pc state.pc; x = registers_with state.x rd value }
 
 -- the address of what follows goes to rd, and the next instruction is at target
-abbrev pub linked : IsaState → ℕ → ℕ → IsaState
-linked state rd target = record { pc = target; x = written state.x rd (following state.pc) }
+abbrev pub state_after_jump : IsaState → ℕ → ℕ → IsaState
+state_after_jump state rd target = record { pc = target; x = registers_with state.x rd (next_pc state.pc) }
 
 -- the next instruction is at pc, and the registers stay
-abbrev pub at_pc : IsaState → ℕ → IsaState
-at_pc state pc = record { pc = pc; x = state.x }
+abbrev pub state_at : IsaState → ℕ → IsaState
+state_at state pc = record { pc = pc; x = state.x }
 
--- the state after an instruction; `fence`, `ecall` and `ebreak` change the pc alone
+-- the state after an instruction, where a load has found `loaded`
 abbrev pub next_state : IsaState → Instr → ℕ → IsaState
-next_state state (Reg op rd rs1 rs2) loaded = continued state rd (reg_value op (register state rs1) (register state rs2))
-next_state state (Imm op rd rs1 imm) loaded = continued state rd (imm_value op (register state rs1) imm)
-next_state state (Load op rd rs1 imm) loaded = continued state rd (load_value op loaded)
+next_state state (Reg op rd rs1 rs2) loaded = state_with_value state rd (reg_value op (register state rs1) (register state rs2))
+next_state state (Imm op rd rs1 imm) loaded = state_with_value state rd (imm_value op (register state rs1) imm)
+next_state state (Load op rd rs1 imm) loaded = state_with_value state rd (load_value op loaded)
 next_state state (Branch op rs1 rs2 offset) loaded =
-    at_pc state (if is_taken op (register state rs1) (register state rs2) then moved state.pc offset else following state.pc)
-next_state state (Lui rd imm) loaded = continued state rd (imm * 2 ^ 12)
-next_state state (Auipc rd imm) loaded = continued state rd ((state.pc + imm * 2 ^ 12) % 2 ^ 32)
-next_state state (Jal rd offset) loaded = linked state rd (moved state.pc offset)
-next_state state (Jalr rd rs1 imm) loaded = linked state rd (jalr_target (register state rs1) imm)
-next_state state _ loaded = at_pc state (following state.pc)
+    state_at state (if is_taken op (register state rs1) (register state rs2) then plus_imm state.pc offset else next_pc state.pc)
+next_state state (Lui rd imm) loaded = state_with_value state rd (imm * 2 ^ 12)
+next_state state (Auipc rd imm) loaded = state_with_value state rd ((state.pc + imm * 2 ^ 12) % 2 ^ 32)
+next_state state (Jal rd offset) loaded = state_after_jump state rd (plus_imm state.pc offset)
+next_state state (Jalr rd rs1 imm) loaded = state_after_jump state rd (jalr_target (register state rs1) imm)
+next_state state (Store op rs1 rs2 imm) loaded = state_at state (next_pc state.pc)
+next_state state Fence loaded = state_at state (next_pc state.pc)
+next_state state Ecall loaded = state_at state (next_pc state.pc)
+next_state state Ebreak loaded = state_at state (next_pc state.pc)

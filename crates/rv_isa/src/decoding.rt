@@ -13,7 +13,7 @@ use crate::encoding::{
     AUIPC, BRANCH, EBREAK_WORD, ECALL_WORD, FENCE_WORD, IMM, JAL, JALR, LOAD, LUI, MISC_MEM, REG,
     STORE, SYSTEM,
 };
-use crate::fields::{bits, sign_extended};
+use crate::fields::{bits, sign_extension};
 use crate::instruction::{BranchOp, ImmOp, Instr, LoadOp, RegOp, StoreOp};
 
 impl RegOp {
@@ -149,13 +149,13 @@ fn funct7(word: u32) -> u32
 fn i_imm(word: u32) -> i32
     ensures { result ≡ i_imm word }
 {
-    sign_extended(bits(word, 31, 20), 1 << 11)
+    sign_extension(bits(word, 31, 20), 1 << 11)
 }
 
 fn s_imm(word: u32) -> i32
     ensures { result ≡ s_imm word }
 {
-    sign_extended((bits(word, 31, 25) << 5) + bits(word, 11, 7), 1 << 11)
+    sign_extension((bits(word, 31, 25) << 5) + bits(word, 11, 7), 1 << 11)
 }
 
 fn b_imm(word: u32) -> i32
@@ -165,7 +165,7 @@ fn b_imm(word: u32) -> i32
         + (bits(word, 7, 7) << 11)
         + (bits(word, 30, 25) << 5)
         + (bits(word, 11, 8) << 1);
-    sign_extended(field, 1 << 12)
+    sign_extension(field, 1 << 12)
 }
 
 fn j_imm(word: u32) -> i32
@@ -175,7 +175,7 @@ fn j_imm(word: u32) -> i32
         + (bits(word, 19, 12) << 12)
         + (bits(word, 20, 20) << 11)
         + (bits(word, 30, 21) << 1);
-    sign_extended(field, 1 << 20)
+    sign_extension(field, 1 << 20)
 }
 
 fn decode_reg(word: u32) -> Option<Instr>

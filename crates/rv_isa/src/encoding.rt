@@ -182,30 +182,15 @@ pub fn fits(instr: Instr) -> bool
     ensures { IsTrue result ↔ Fits instr }
 {
     match instr {
-        Instr::Reg {
-            op: _,
-            rd,
-            rs1,
-            rs2,
-        } => rd < 32 && rs1 < 32 && rs2 < 32,
+        Instr::Reg { rd, rs1, rs2, .. } => rd < 32 && rs1 < 32 && rs2 < 32,
         Instr::Imm { op, rd, rs1, imm } => rd < 32 && rs1 < 32 && op.is_operand(imm),
-        Instr::Load {
-            op: _,
-            rd,
-            rs1,
-            imm,
-        } => rd < 32 && rs1 < 32 && is_short_imm(imm),
-        Instr::Store {
-            op: _,
-            rs1,
-            rs2,
-            imm,
-        } => rs1 < 32 && rs2 < 32 && is_short_imm(imm),
+        Instr::Load { rd, rs1, imm, .. } => rd < 32 && rs1 < 32 && is_short_imm(imm),
+        Instr::Store { rs1, rs2, imm, .. } => rs1 < 32 && rs2 < 32 && is_short_imm(imm),
         Instr::Branch {
-            op: _,
             rs1,
             rs2,
             offset,
+            ..
         } => { rs1 < 32 && rs2 < 32 && is_branch_offset(offset) }
         Instr::Lui { rd, imm } => rd < 32 && imm < 1 << 20,
         Instr::Auipc { rd, imm } => rd < 32 && imm < 1 << 20,

@@ -1,9 +1,9 @@
 //! What one instruction does.
 ghost use Rattle.std.specs.Prelude.{◌≡◌, ◌+◌, ◌*◌, ◌%◌, ◌<◌, ◌≤◌, ◌^◌, slice_index};
-ghost use Rattle.rv_isa.specs.Steps.{at_pc, continued, following, imm_value, is_taken, jalr_target, linked, load_value, moved, next_state, on_registers, reg_value, register, request_of, store_bytes, store_value, written};
+ghost use Rattle.rv_isa.specs.Steps.{imm_value, is_taken, jalr_target, load_value, next_pc, next_state, on_registers, plus_imm, reg_value, register, registers_with, request_of, state_after_jump, state_at, state_with_value, store_bytes, store_value};
 ghost use Rattle.rv_isa.specs.Words.{Fits};
 
-use crate::fields::sign_extended;
+use crate::fields::sign_extension;
 use crate::instruction::{BranchOp, ImmOp, Instr, LoadOp, RegOp, StoreOp};
 
 /// What a program can see of the machine: the program counter and the registers x0 to x31.
@@ -70,8 +70,8 @@ impl LoadOp {
         ensures { result ≡ load_value self loaded }
     {
         match self {
-            LoadOp::Lb => sign_extended(loaded % (1 << 8), 1 << 7).cast_unsigned(),
-            LoadOp::Lh => sign_extended(loaded % (1 << 16), 1 << 15).cast_unsigned(),
+            LoadOp::Lb => sign_extension(loaded % (1 << 8), 1 << 7).cast_unsigned(),
+            LoadOp::Lh => sign_extension(loaded % (1 << 16), 1 << 15).cast_unsigned(),
             LoadOp::Lw => loaded,
             LoadOp::Lbu => loaded % (1 << 8),
             LoadOp::Lhu => loaded % (1 << 16),
@@ -116,8 +116,8 @@ impl BranchOp {
     }
 }
 
-fn moved(from: u32, imm: i32) -> u32
-    ensures { result ≡ moved from imm }
+fn plus_imm(from: u32, imm: i32) -> u32
+    ensures { result ≡ plus_imm from imm }
 {
     from.wrapping_add(imm.cast_unsigned())
 }
@@ -126,7 +126,7 @@ fn moved(from: u32, imm: i32) -> u32
 fn jalr_target(from: u32, imm: i32) -> u32
     ensures { result ≡ jalr_target from imm }
 {
-    moved(from, imm) / 2 * 2
+    plus_imm(from, imm) / 2 * 2
 }
 
 impl IsaState {
@@ -138,14 +138,14 @@ impl IsaState {
         self.x[usize::from(r)]
     }
 
-    fn following(&self) -> u32
-        ensures { result ≡ following self.now.pc }
+    fn next_pc(&self) -> u32
+        ensures { result ≡ next_pc self.now.pc }
     {
         self.pc.wrapping_add(4)
     }
 
     fn at_pc(&self, pc: u32) -> IsaState
-        ensures { result ≡ at_pc self.now pc }
+        ensures { result ≡ state_at self.now pc }
     {
         IsaState { pc, x: self.x }
     }
@@ -153,7 +153,7 @@ impl IsaState {
     fn with_register(&self, pc: u32, rd: u8, value: u32) -> IsaState
         requires { rd < 32 }
         ensures pc { result.pc ≡ pc }
-        ensures x { result.x ≡ written self.now.x rd value }
+        ensures x { result.x ≡ registers_with self.now.x rd value }
     {
         let mut x = self.x;
         if rd != 0 {
@@ -162,18 +162,18 @@ impl IsaState {
         IsaState { pc, x }
     }
 
-    fn continued(&self, rd: u8, value: u32) -> IsaState
+    fn with_value(&self, rd: u8, value: u32) -> IsaState
         requires { rd < 32 }
-        ensures { result ≡ continued self.now rd value }
+        ensures { result ≡ state_with_value self.now rd value }
     {
-        self.with_register(self.following(), rd, value)
+        self.with_register(self.next_pc(), rd, value)
     }
 
-    fn linked(&self, rd: u8, target: u32) -> IsaState
+    fn after_jump(&self, rd: u8, target: u32) -> IsaState
         requires { rd < 32 }
-        ensures { result ≡ linked self.now rd target }
+        ensures { result ≡ state_after_jump self.now rd target }
     {
-        self.with_register(target, rd, self.following())
+        self.with_register(target, rd, self.next_pc())
     }
 }
 
@@ -184,18 +184,13 @@ pub fn request(state: &IsaState, instr: Instr) -> Access
     ensures { result ≡ request_of state.now instr }
 {
     match instr {
-        Instr::Load {
-            op: _,
-            rd: _,
-            rs1,
-            imm,
-        } => {
+        Instr::Load { rs1, imm, .. } => {
             Access::Load {
-                address: moved(state.register(rs1), imm),
+                address: plus_imm(state.register(rs1), imm),
             }
         }
         Instr::Store { op, rs1, rs2, imm } => Access::Store {
-            address: moved(state.register(rs1), imm),
+            address: plus_imm(state.register(rs1), imm),
             bytes: op.bytes(),
             value: op.stored(state.register(rs2)),
         },
@@ -212,17 +207,12 @@ pub fn step(state: &IsaState, instr: Instr, loaded: u32) -> IsaState
 {
     match instr {
         Instr::Reg { op, rd, rs1, rs2 } => {
-            state.continued(rd, op.apply(state.register(rs1), state.register(rs2)))
+            state.with_value(rd, op.apply(state.register(rs1), state.register(rs2)))
         }
         Instr::Imm { op, rd, rs1, imm } => {
-            state.continued(rd, op.apply(state.register(rs1), imm))
+            state.with_value(rd, op.apply(state.register(rs1), imm))
         }
-        Instr::Load {
-            op,
-            rd,
-            rs1: _,
-            imm: _,
-        } => state.continued(rd, op.extended(loaded)),
+        Instr::Load { op, rd, .. } => state.with_value(rd, op.extended(loaded)),
         Instr::Branch {
             op,
             rs1,
@@ -231,17 +221,17 @@ pub fn step(state: &IsaState, instr: Instr, loaded: u32) -> IsaState
         } => {
             let is_taken = op.is_taken(state.register(rs1), state.register(rs2));
             state.at_pc(if is_taken {
-                moved(state.pc, offset)
+                plus_imm(state.pc, offset)
             } else {
-                state.following()
+                state.next_pc()
             })
         }
-        Instr::Lui { rd, imm } => state.continued(rd, imm << 12),
-        Instr::Auipc { rd, imm } => state.continued(rd, state.pc.wrapping_add(imm << 12)),
-        Instr::Jal { rd, offset } => state.linked(rd, moved(state.pc, offset)),
-        Instr::Jalr { rd, rs1, imm } => state.linked(rd, jalr_target(state.register(rs1), imm)),
+        Instr::Lui { rd, imm } => state.with_value(rd, imm << 12),
+        Instr::Auipc { rd, imm } => state.with_value(rd, state.pc.wrapping_add(imm << 12)),
+        Instr::Jal { rd, offset } => state.after_jump(rd, plus_imm(state.pc, offset)),
+        Instr::Jalr { rd, rs1, imm } => state.after_jump(rd, jalr_target(state.register(rs1), imm)),
         Instr::Store { .. } | Instr::Fence | Instr::Ecall | Instr::Ebreak => {
-            state.at_pc(state.following())
+            state.at_pc(state.next_pc())
         }
     }
 }

@@ -1,6 +1,6 @@
 //! Fields of bits, and the words of the six formats ("Base Instruction Formats" and "Immediate Encoding Variants").
 ghost use Rattle.std.specs.Prelude.{◌≡◌, ◌+◌, ◌-◌, ◌*◌, ◌<◌, ◌≤◌, ◌^◌};
-ghost use Rattle.rv_isa.specs.Fields.{b_word, bits, i_word, imm_bits, j_word, r_word, s_word, sign_extended, u_word};
+ghost use Rattle.rv_isa.specs.Fields.{b_word, bits, i_word, imm_bits, j_word, r_word, s_word, sign_extension, u_word};
 
 /// Bits `high` to `low` of a word, as a number.
 pub(crate) fn bits(word: u32, high: u32, low: u32) -> u32
@@ -23,10 +23,10 @@ pub(crate) fn imm_bits(imm: i32, high: u32, low: u32) -> u32
 }
 
 /// The number that a field holds in two's complement, where `sign` is the worth of its highest bit.
-pub(crate) fn sign_extended(field: u32, sign: u32) -> i32
+pub(crate) fn sign_extension(field: u32, sign: u32) -> i32
     requires sign { sign ≤ 2 ^ 20 }
     requires field { field < 2 * sign }
-    ensures { result ≡ sign_extended field sign }
+    ensures { result ≡ sign_extension field sign }
 {
     if field < sign {
         field as i32
