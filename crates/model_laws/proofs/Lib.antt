@@ -1,0 +1,9 @@
+pub mod Lists
+pub mod Ranks
+pub mod Forced
+pub mod Carry
+pub mod Requests
+pub mod Knowing
+pub mod Calms
+pub mod Unique
+pub mod Rooted

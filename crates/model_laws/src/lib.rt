@@ -1,0 +1,56 @@
+//! The laws of runs, each the contract of a function that does nothing: what is settled, known, calm, reached and rooted.
+#![tactic(auto)]
+
+ghost use Rattle.model_laws.specs.Laws.{OneSettledLaw, OneForcedLaw, KnownLaw, RequestsLaw, CalmLaw, WaveformLaw, RootLaw, OneRunLaw, OneKnownLaw, OneRootedLaw};
+
+/// Two settled valuations that agree on the bits that no cell drives are one, where no cells make a loop.
+pub fn one_settled_law()
+    ensures { OneSettledLaw }
+{}
+
+/// Two rows of what is forced that agree on the bits that no cell drives are one, where no cells make a loop.
+pub fn one_forced_law()
+    ensures { OneForcedLaw }
+{}
+
+/// What is known of a bit or of a memory word is its value in every run, where every control that applies is known.
+pub fn known_law()
+    ensures { KnownLaw }
+{}
+
+/// Every run reads, addresses and stores what is known of the memory ports.
+pub fn requests_law()
+    ensures { RequestsLaw }
+{}
+
+/// Under every schedule of gate events a calm bit has its calm value at every moment.
+pub fn calm_law()
+    ensures { CalmLaw }
+{}
+
+/// Runs that agree on the old and new values of the leaves that a bit reaches show one waveform of it, under every
+/// schedule of gate events.
+pub fn waveform_law()
+    ensures { WaveformLaw }
+{}
+
+/// An unknown bit has in every run the value of its root: a label of the run, or a cell's output, the bit itself or one
+/// of an earlier cycle.
+pub fn root_law()
+    ensures { RootLaw }
+{}
+
+/// A choice has at most one run.
+pub fn one_run_law()
+    ensures { OneRunLaw }
+{}
+
+/// What is known is one.
+pub fn one_known_law()
+    ensures { OneKnownLaw }
+{}
+
+/// The roots of a run are one.
+pub fn one_rooted_law()
+    ensures { OneRootedLaw }
+{}
