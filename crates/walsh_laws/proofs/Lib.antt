@@ -1,0 +1,5 @@
+pub mod Bits
+pub mod Totals
+pub mod Parity
+pub mod GateStep
+pub mod Correlation
