@@ -3,3 +3,5 @@ pub mod Totals
 pub mod Parity
 pub mod GateStep
 pub mod Correlation
+pub mod Choices
+pub mod Counts
