@@ -5,3 +5,4 @@ pub mod GateStep
 pub mod Correlation
 pub mod Choices
 pub mod Counts
+pub mod WholeSets
