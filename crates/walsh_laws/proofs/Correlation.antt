@@ -183,8 +183,12 @@ step n labels value (Gate kind parts operands) holds members W inside k =
   where
     in_front : (c : Choice) → length c ≡ labels → signed (xor (xor (value c n) (parity_below n members (value c))) (label_parity W c)) (pos 1)
         ≡ signed (xor (parity_below n members (value c)) (label_parity W c)) (signed (output_of kind (input_values (value c) (input_places kind parts) (input_places kind operands))) (pos 1))
-    in_front c h = rw (xor-assoc (value c n) (parity_below n members (value c)) (label_parity W c), xor-comm (value c n) (xor (parity_below n members (value c)) (label_parity W c)),
-        signed-xor (xor (parity_below n members (value c)) (label_parity W c)) (value c n) (pos 1), holds.output c h) refl
+    in_front c h = rw (
+      xor-assoc (value c n) (parity_below n members (value c)) (label_parity W c),
+      xor-comm (value c n) (xor (parity_below n members (value c)) (label_parity W c)),
+      signed-xor (xor (parity_below n members (value c)) (label_parity W c)) (value c n) (pos 1),
+      holds.output c h,
+    ) refl
 
 join : (n : ℕ) (nodes : ℕ → Node) (labels : ℕ) (value : Choice → ℕ → Bool) (members fewer : ℕ → Bool) (W left : Labels) → AreNodeValues (suc n) nodes labels value
     → (own_set : HasOwnSet n (nodes n)) → (r : IsSelected n nodes fewer left)

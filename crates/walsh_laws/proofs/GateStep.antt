@@ -25,8 +25,11 @@ signed_total-add f g [] (p ∷ ps) = refl
 signed_total-add f g (s ∷ ss) (Zero ∷ ps) = signed_total-add (λ xs. f (false ∷ xs)) (λ xs. g (false ∷ xs)) ss ps
 signed_total-add f g (s ∷ ss) (One ∷ ps) = signed_total-add (λ xs. f (true ∷ xs)) (λ xs. g (true ∷ xs)) ss ps
 signed_total-add f g (s ∷ ss) (Vary ∷ ps) =
-    rw (signed_total-add (λ xs. f (false ∷ xs)) (λ xs. g (false ∷ xs)) ss ps, signed_total-add (λ xs. f (true ∷ xs)) (λ xs. g (true ∷ xs)) ss ps,
-    signed-add s (signed_total (λ xs. f (true ∷ xs)) ss ps) (signed_total (λ xs. g (true ∷ xs)) ss ps)) (omega (arith, ints))
+    rw (
+      signed_total-add (λ xs. f (false ∷ xs)) (λ xs. g (false ∷ xs)) ss ps,
+      signed_total-add (λ xs. f (true ∷ xs)) (λ xs. g (true ∷ xs)) ss ps,
+      signed-add s (signed_total (λ xs. f (true ∷ xs)) ss ps) (signed_total (λ xs. g (true ∷ xs)) ss ps),
+    ) (omega (arith, ints))
 
 signed_total-neg : (f : List Bool → ℤ) (ss : Subset) (ps : List Part) → signed_total (λ xs. neg_ℤ (f xs)) ss ps ≡ neg_ℤ (signed_total f ss ps)
 signed_total-neg f ss [] = refl
@@ -34,8 +37,11 @@ signed_total-neg f [] (p ∷ ps) = omega (arith, ints)
 signed_total-neg f (s ∷ ss) (Zero ∷ ps) = signed_total-neg (λ xs. f (false ∷ xs)) ss ps
 signed_total-neg f (s ∷ ss) (One ∷ ps) = signed_total-neg (λ xs. f (true ∷ xs)) ss ps
 signed_total-neg f (s ∷ ss) (Vary ∷ ps) =
-    rw (signed_total-neg (λ xs. f (false ∷ xs)) ss ps, signed_total-neg (λ xs. f (true ∷ xs)) ss ps,
-    signed-neg s (signed_total (λ xs. f (true ∷ xs)) ss ps)) (omega (arith, ints))
+    rw (
+      signed_total-neg (λ xs. f (false ∷ xs)) ss ps,
+      signed_total-neg (λ xs. f (true ∷ xs)) ss ps,
+      signed-neg s (signed_total (λ xs. f (true ∷ xs)) ss ps),
+    ) (omega (arith, ints))
 
 subset_behind : (s : Bool) (ss : Subset) (p : Part) (ps : List Part) → IsSubsetOf (s ∷ ss) (p ∷ ps) → IsSubsetOf ss ps
 subset_behind s ss p ps h = let n = h.as_long in record { as_long = omega arith; varies = λ place e. h.varies (suc place) e }

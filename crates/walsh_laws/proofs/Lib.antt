@@ -6,3 +6,4 @@ pub mod Correlation
 pub mod Choices
 pub mod Counts
 pub mod WholeSets
+pub mod Counting

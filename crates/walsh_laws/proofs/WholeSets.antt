@@ -76,9 +76,11 @@ HasNoRepeat-apart (x ∷ xs) ys h l i j = go (Contains-cases x l xs i) (λ k. Ha
 
 apart_from_once : (lists : List (List ℕ)) → HasNoRepeat (flat_map (λ (ls : List ℕ). ls) lists) → AreApart lists
 apart_from_once [] h = tt
-apart_from_once (ls ∷ lists) h =
-    (HasNoRepeat-left ls (flat_map (λ (ks : List ℕ). ks) lists) h, HasNoRepeat-apart ls (flat_map (λ (ks : List ℕ). ks) lists) h,
-    apart_from_once lists (HasNoRepeat-right ls (flat_map (λ (ks : List ℕ). ks) lists) h))
+apart_from_once (ls ∷ lists) h = (
+  HasNoRepeat-left ls (flat_map (λ (ks : List ℕ). ks) lists) h,
+  HasNoRepeat-apart ls (flat_map (λ (ks : List ℕ). ks) lists) h,
+  apart_from_once lists (HasNoRepeat-right ls (flat_map (λ (ks : List ℕ). ks) lists) h),
+)
 
 -- a label of a list
 list_of_lists : (lists : List (List ℕ)) (ls : List ℕ) (l : ℕ) → Contains lists ls → Contains ls l → Contains (flat_map (λ (ks : List ℕ). ks) lists) l
@@ -93,8 +95,11 @@ labels_of-none : (subset : Subset) (lists : List (List ℕ)) (l : ℕ) → (Cont
 labels_of-none [] lists l n = refl
 labels_of-none (s ∷ ss) [] l n = refl
 labels_of-none (s ∷ ss) (ls ∷ lists) l n =
-    rw (listed-none ls l (λ h. n (Contains-append_left ls (flat_map (λ (ks : List ℕ). ks) lists) l h)),
-    labels_of-none ss lists l (λ h. n (Contains-append_right ls (flat_map (λ (ks : List ℕ). ks) lists) l h)), and-false s) refl
+    rw (
+      listed-none ls l (λ h. n (Contains-append_left ls (flat_map (λ (ks : List ℕ). ks) lists) l h)),
+      labels_of-none ss lists l (λ h. n (Contains-append_right ls (flat_map (λ (ks : List ℕ). ks) lists) l h)),
+      and-false s,
+    ) refl
 
 labels_of-true : (subset : Subset) (lists : List (List ℕ)) (l : ℕ) → labels_of subset lists l ≡ true → (ls : List ℕ) × Contains lists ls × Contains ls l
 labels_of-true [] lists l e = absurd (false≢true e)
