@@ -17,3 +17,5 @@ pub mod Solved
 pub mod Sources
 pub mod Exists
 pub mod Meanings
+pub mod Noded
+pub mod Selected

@@ -16,10 +16,10 @@ abbrev pub driver_of : List FlatCell → ℕ → Option FlatCell
 driver_of [] b = None
 driver_of (c ∷ cs) b = cond (nat_eq c.output b) (Some c) (driver_of cs b)
 
-abbrev outputs : List FlatCell → List ℕ
+abbrev pub outputs : List FlatCell → List ℕ
 outputs cs = map (λ (c : FlatCell). c.output) cs
 
-driver_of-listed : (cs : List FlatCell) → HasNoRepeat (outputs cs) → (c : FlatCell) → Contains cs c → driver_of cs c.output ≡ Some c
+pub driver_of-listed : (cs : List FlatCell) → HasNoRepeat (outputs cs) → (c : FlatCell) → Contains cs c → driver_of cs c.output ≡ Some c
 driver_of-listed [] once c h = absurd (Contains-none c h)
 driver_of-listed (d ∷ cs) once c h = go (Contains-cases d c cs h) (λ i. driver_of-listed cs once.1 c i)
   where

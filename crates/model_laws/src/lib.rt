@@ -1,7 +1,7 @@
 //! The laws of runs, each the contract of a function that does nothing: what is settled, known, calm, reached and rooted.
 #![tactic(auto)]
 
-ghost use Rattle.model_laws.specs.Laws.{OneSettledLaw, OneForcedLaw, KnownLaw, RequestsLaw, CalmLaw, WaveformLaw, RootLaw, OneRunLaw, OneKnownLaw, OneRootedLaw, OneReachLaw, OneWideReachLaw, MeaningLaw, EndLaw};
+ghost use Rattle.model_laws.specs.Laws.{OneSettledLaw, OneForcedLaw, KnownLaw, RequestsLaw, CalmLaw, WaveformLaw, RootLaw, OneRunLaw, OneKnownLaw, OneRootedLaw, OneReachLaw, OneWideReachLaw, MeaningLaw, EndLaw, UnrolledLaw, NodesLaw, NodeSetsLaw, RootSetsLaw};
 
 /// Two settled valuations that agree on the bits that no cell drives are one, where no cells make a loop.
 pub fn one_settled_law()
@@ -74,4 +74,24 @@ pub fn meaning_law()
 /// The events of all leaves and then of all cells in order end in the settled valuation of the new leaves.
 pub fn end_law()
     ensures { EndLaw }
+{}
+
+/// The nodes of a run stand for its roots.
+pub fn unrolled_law()
+    ensures { UnrolledLaw }
+{}
+
+/// Nodes that lead to one origin have one root, and a node whose root is an output leads to that output's node.
+pub fn nodes_law()
+    ensures { NodesLaw }
+{}
+
+/// A selection of roots is a selection of nodes.
+pub fn node_sets_law()
+    ensures { NodeSetsLaw }
+{}
+
+/// A selection of nodes is a selection of roots.
+pub fn root_sets_law()
+    ensures { RootSetsLaw }
 {}
