@@ -19,3 +19,4 @@ pub mod Exists
 pub mod Meanings
 pub mod Noded
 pub mod Selected
+pub mod Securely
