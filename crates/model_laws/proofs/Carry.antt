@@ -90,7 +90,7 @@ pub record IsLinked {X Y : Type 0} (flat : Flat) (s : ℕ → X) (u : ℕ → Y)
   pub bits : (b : ℕ) → bit (s b) (u b)
   pub words : (address k : ℕ) → leaf (s_word address k) (u_word address k)
 
-along : {X Y : Type 0} (R : X → Y → Type 0) {x x' : X} {y y' : Y} → x ≡ x' → y ≡ y' → R x' y' → R x y
+pub along : {X Y : Type 0} (R : X → Y → Type 0) {x x' : X} {y y' : Y} → x ≡ x' → y ≡ y' → R x' y' → R x y
 along R {x} {x'} {y} {y'} e f h = subst (λ a. R a y) (sym e) (subst (R x') (sym f) h)
 
 cond-linked : {X Y : Type 0} (R : X → Y → Type 0) (a b : Bool) (x x' : X) (y y' : Y) → a ≡ b → (b ≡ true → R x y) → R x' y' → R (cond a x x') (cond b y y')
@@ -104,7 +104,7 @@ on_wire-linked : {X Y : Type 0} (R Q : X → Y → Type 0) (one : Bool → X) (o
 on_wire-linked R Q one other s u constants passes bits (Const b) = constants b
 on_wire-linked R Q one other s u constants passes bits (Bit n) = passes (s n) (u n) (bits n)
 
-start_word-linked : {X Y : Type 0} (R : X → Y → Type 0) (one : States X) (other : States Y) (setup : Setup) (good : Start → Type 0)
+pub start_word-linked : {X Y : Type 0} (R : X → Y → Type 0) (one : States X) (other : States Y) (setup : Setup) (good : Start → Type 0)
     → ((b : Bool) → R (one.constant b) (other.constant b)) → ((start : Start) → good start → R (start_state one setup.table 0 start) (start_state other setup.table 0 start))
     → (words : List WordPlan) → ((w : WordPlan) → Contains words w → (k : ℕ) → good (get_or w.bits k (Public false)))
     → (address k : ℕ) → R (start_word one setup.table words address k) (start_word other setup.table words address k)
@@ -113,7 +113,7 @@ start_word-linked R one other setup good constants starts (w ∷ words) all addr
     cond-linked R (nat_eq w.address address) (nat_eq w.address address) _ _ _ _ refl (λ e. starts (get_or w.bits k (Public false)) (all w (Contains-here w words) k))
     (start_word-linked R one other setup good constants starts words (λ x h. all x (Contains-later w x words h)) address k)
 
-stored_word-linked : {X Y : Type 0} (R Q : X → Y → Type 0) (one : States X) (other : States Y) (v w : Valuation) (s : ℕ → X) (u : ℕ → Y)
+pub stored_word-linked : {X Y : Type 0} (R Q : X → Y → Type 0) (one : States X) (other : States Y) (v w : Valuation) (s : ℕ → X) (u : ℕ → Y)
     → ((b : Bool) → R (one.constant b) (other.constant b)) → ((x : X) (y : Y) → Q x y → R x y) → ((b : ℕ) → Q (s b) (u b))
     → (mems : List MemPlan) → ((mem : MemPlan) → Contains mems mem → AreSameRequests v w mem)
     → (address k : ℕ) (x : X) (y : Y) → R x y → R (stored_word one v s mems address k x) (stored_word other w u mems address k y)
@@ -124,7 +124,7 @@ stored_word-linked R Q one other v w s u constants passes bits (mem ∷ mems) sa
     (stored_word-linked R Q one other v w s u constants passes bits mems (λ m i. same m (Contains-later mem m mems i)) address k x y h)
 
 -- the leaves of the first cycle are related
-first-linked : {X Y : Type 0} (one : States X) (other : States Y) (good : Start → Type 0) (flat : Flat) (setup : Setup) (s : ℕ → X) (u : ℕ → Y)
+pub first-linked : {X Y : Type 0} (one : States X) (other : States Y) (good : Start → Type 0) (flat : Flat) (setup : Setup) (s : ℕ → X) (u : ℕ → Y)
     (s_word : ℕ → ℕ → X) (u_word : ℕ → ℕ → Y) (leaf : X → Y → Type 0)
     → ((b : Bool) → leaf (one.constant b) (other.constant b)) → ((start : Start) → good start → leaf (start_state one setup.table 0 start) (start_state other setup.table 0 start))
     → IsBound flat setup → AreStarts good flat setup
@@ -141,7 +141,7 @@ first-linked one other good flat setup s u s_word u_word leaf constants starts b
     go (flop f h e) = subst (λ c. leaf (s c) (u c)) e (along leaf (first_s.flops f h) (first_u.flops f h) (starts (get_or setup.starts f.output (Public false)) (all.flops f h)))
 
 -- the leaves of a later cycle are related
-next-linked : {X Y : Type 0} (one : States X) (other : States Y) (good : Start → Type 0) (flat : Flat) (setup : Setup) (t : ℕ) (v w : Valuation)
+pub next-linked : {X Y : Type 0} (one : States X) (other : States Y) (good : Start → Type 0) (flat : Flat) (setup : Setup) (t : ℕ) (v w : Valuation)
     (s s' : ℕ → X) (u u' : ℕ → Y) (s_word s_word' : ℕ → ℕ → X) (u_word u_word' : ℕ → ℕ → Y) (leaf bit old : X → Y → Type 0)
     → ((b : Bool) → leaf (one.constant b) (other.constant b)) → ((start : Start) → good start → leaf (start_state one setup.table t start) (start_state other setup.table t start))
     → ((x : X) (y : Y) → bit x y → leaf x y) → ((x : X) (y : Y) → old x y → leaf x y)

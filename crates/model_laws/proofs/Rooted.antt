@@ -62,7 +62,7 @@ kept_part flat setup cycles row word known root t below c listed kept =
     ((known.forced t below).cells c listed)
 
 -- what holds of the bits that no cell drives, and of each cell's output, holds of every bit
-by_driver : (flat : Flat) (P : ℕ → Type 0) → ((b : ℕ) → (IsCellBit flat b → ⊥) → P b) → ((c : FlatCell) → Contains flat.cells c → P c.output) → (b : ℕ) → P b
+pub by_driver : (flat : Flat) (P : ℕ → Type 0) → ((b : ℕ) → (IsCellBit flat b → ⊥) → P b) → ((c : FlatCell) → Contains flat.cells c → P c.output) → (b : ℕ) → P b
 by_driver flat P leaves cells b = go (cell_bit_or_not flat b)
   where
     go : IsCellBit flat b ⊎ (IsCellBit flat b → ⊥) → P b

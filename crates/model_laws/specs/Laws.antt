@@ -14,6 +14,7 @@ use Rattle.coco_model.specs.Known.{Row, ones, IsForcedRow, IsKnown}
 use Rattle.coco_model.specs.Controls.{AreControlsKnown, HasControls}
 use Rattle.coco_model.specs.Calm.{IsCalm}
 use Rattle.coco_model.specs.Reach.{Reach, Reaches, IsReach, IsWideReach}
+use Rattle.coco_model.specs.Secure.{IsSecureFor, IsSecure, IsWidelySecure}
 use Rattle.coco_model.specs.Events.{Event, waveform, after_events, IsCellOrder}
 use Rattle.coco_model.specs.Events.Event.{leaf, cell}
 use Rattle.coco_model.specs.Roots.{Root, IsRooted, root_value}
@@ -211,3 +212,15 @@ RootSetsLaw =
     → ((t b s c : ℕ) → t < cycles → root t b ≡ output s c → s ≤ t)
     → (sets : ℕ → Labels) → AreNodeSets flat cycles index nodes sets
     → HasSelection flat cycles index row root sets
+
+-- a run that is secure for its one calm-blocked reach is secure
+unfoldable pub SecureLaw : Type 0
+SecureLaw =
+    (flat : Flat) (setup : Setup) (cycles : ℕ) (rank : ℕ → ℕ) → IsRanked flat rank → IsBound flat setup
+    → (reach : Reach) → IsReach flat setup cycles reach → (d : ℕ) → IsSecureFor flat setup cycles reach d → IsSecure flat setup cycles d
+
+-- the same for the coarser reach
+unfoldable pub WidelySecureLaw : Type 0
+WidelySecureLaw =
+    (flat : Flat) (setup : Setup) (cycles : ℕ) (reach : Reach) → IsWideReach flat setup cycles reach
+    → (d : ℕ) → IsSecureFor flat setup cycles reach d → IsWidelySecure flat setup cycles d

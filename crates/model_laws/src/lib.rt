@@ -1,7 +1,7 @@
 //! The laws of runs, each the contract of a function that does nothing: what is settled, known, calm, reached and rooted.
 #![tactic(auto)]
 
-ghost use Rattle.model_laws.specs.Laws.{OneSettledLaw, OneForcedLaw, KnownLaw, RequestsLaw, CalmLaw, WaveformLaw, RootLaw, OneRunLaw, OneKnownLaw, OneRootedLaw};
+ghost use Rattle.model_laws.specs.Laws.{OneSettledLaw, OneForcedLaw, KnownLaw, RequestsLaw, CalmLaw, WaveformLaw, RootLaw, OneRunLaw, OneKnownLaw, OneRootedLaw, OneReachLaw, OneWideReachLaw, SecureLaw, WidelySecureLaw, MeaningLaw, EndLaw, UnrolledLaw, NodesLaw, NodeSetsLaw, RootSetsLaw};
 
 /// Two settled valuations that agree on the bits that no cell drives are one, where no cells make a loop.
 pub fn one_settled_law()
@@ -53,4 +53,55 @@ pub fn one_known_law()
 /// The roots of a run are one.
 pub fn one_rooted_law()
     ensures { OneRootedLaw }
+{}
+
+/// What a probe reaches is one.
+pub fn one_reach_law()
+    ensures { OneReachLaw }
+{}
+
+/// The coarser reach by structure alone is one.
+pub fn one_wide_reach_law()
+    ensures { OneWideReachLaw }
+{}
+
+/// A run that is secure for its one calm-blocked reach is secure.
+pub fn secure_law()
+    ensures { SecureLaw }
+{}
+
+/// A run that is secure for its one coarser reach is secure for every such reach.
+pub fn widely_secure_law()
+    ensures { WidelySecureLaw }
+{}
+
+/// A netlist without loops and with one driver for each bit, and a setup that binds its inputs, have runs, known values,
+/// roots and reaches.
+pub fn meaning_law()
+    ensures { MeaningLaw }
+{}
+
+/// The events of all leaves and then of all cells in order end in the settled valuation of the new leaves.
+pub fn end_law()
+    ensures { EndLaw }
+{}
+
+/// The nodes of a run stand for its roots.
+pub fn unrolled_law()
+    ensures { UnrolledLaw }
+{}
+
+/// Nodes that lead to one origin have one root, and a node whose root is an output leads to that output's node.
+pub fn nodes_law()
+    ensures { NodesLaw }
+{}
+
+/// A selection of roots is a selection of nodes.
+pub fn node_sets_law()
+    ensures { NodeSetsLaw }
+{}
+
+/// A selection of nodes is a selection of roots.
+pub fn root_sets_law()
+    ensures { RootSetsLaw }
 {}
