@@ -9,3 +9,4 @@ pub mod WholeSets
 pub mod Counting
 pub mod Numbering
 pub mod Homes
+pub mod RunNodes
