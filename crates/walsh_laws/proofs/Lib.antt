@@ -10,3 +10,4 @@ pub mod Counting
 pub mod Numbering
 pub mod Homes
 pub mod RunNodes
+pub mod Listing
