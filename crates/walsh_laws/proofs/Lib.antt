@@ -11,3 +11,5 @@ pub mod Numbering
 pub mod Homes
 pub mod RunNodes
 pub mod Listing
+pub mod Observed
+pub mod NoFinding

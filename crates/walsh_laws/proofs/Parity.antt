@@ -1,7 +1,7 @@
 -- Exclusive ors over sets of numbers, and over the labels of a choice.
 use Rattle.std.proofs.Common.{◌≡◌, ◌≢◌, ℕ, zero, suc, ◌<◌, ◌⊎◌, inl, inr, Bool, true, false, ◌&&◌, List, [], ◌∷◌, length, get_or, map, refl, sym, ◌∙◌, ap, arith, nat_eq, ℤ, pos, ◌+ℤ◌, neg_ℤ}
 use Rattle.std.proofs.lemmas.Int.{ints}
-use Rattle.std.proofs.lemmas.Bool.{true≢false, cases_eq, eq-eqb}
+use Rattle.std.proofs.lemmas.Bool.{true≢false, cases_eq, eq-eqb, cases_Bool}
 use Rattle.std.proofs.lemmas.Bool.Decides.{nat_tests}
 use Rattle.coco_model.specs.Cells.{xor, signed, chosen_parity}
 use Rattle.coco_model.specs.Labels.{Choice, label_bit}
@@ -130,3 +130,12 @@ total_label (suc n) W l h e = go (W 0) refl l h e (λ k below is. total_label n 
       where
         at_true : total n (λ c. signed (label_parity W (true ∷ c)) (pos 1)) ≡ total n (λ c. signed (label_parity (later W) c) (pos 1))
         at_true = total-cong n _ _ (λ c k. rw w refl)
+
+-- only the values of members count
+pub parity-cong_members : (n : ℕ) (U v w : ℕ → Bool) → ((i : ℕ) → i < n → U i ≡ true → v i ≡ w i) → parity_below n U v ≡ parity_below n U w
+parity-cong_members zero U v w e = refl
+parity-cong_members (suc n) U v w e = go (cases_Bool (U n)) (parity-cong_members n U v w (λ i h k. e i (omega arith) k))
+  where
+    go : (U n ≡ true) ⊎ (U n ≡ false) → parity_below n U v ≡ parity_below n U w → xor (U n && v n) (parity_below n U v) ≡ xor (U n && w n) (parity_below n U w)
+    go (inl k) rest = rw (e n (omega arith) k, rest) refl
+    go (inr k) rest = rw (k, rest) refl

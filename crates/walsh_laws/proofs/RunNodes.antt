@@ -66,6 +66,12 @@ run_nodes flat cycles rank row root = at_number flat.bits rank cycles (λ t b. n
 abbrev pub run_values : Flat → ℕ → (ℕ → ℕ) → (Choice → ℕ → Valuation) → Choice → ℕ → Bool
 run_values flat cycles rank run choice = at_number flat.bits rank cycles (λ t b. run choice t b) false
 
+pub nothing_node : (flat : Flat) (cycles : ℕ) (rank : ℕ → ℕ) (row : ℕ → Row) (root : ℕ → ℕ → Root) (t b : ℕ) → t < cycles → b < flat.bits → root t b ≡ nothing
+    → run_nodes flat cycles rank row root (index_of flat rank t b) ≡ Nothing
+nothing_node flat cycles rank row root t b below inside e =
+    at_number-number flat.bits rank cycles (λ t b. node_by_root (index_of flat rank) row flat.cells t b (root t b)) Nothing t b below inside
+    ∙ ap (node_by_root (index_of flat rank) row flat.cells t b) e
+
 -- what is taken from a list is taken from what is taken
 take-take-map : {X Y : Type 0} (f : X → Y) (n : ℕ) (xs : List X) → take n (map f (take n xs)) ≡ map f (take n xs)
 take-take-map f zero xs = refl

@@ -189,3 +189,16 @@ whole_inside table is cycles subset l past = labels_of-none subset (secret_label
     outside h =
         let below : l < table.declared = (is.each l).0 (Contains-append_left (flat_map (λ (ls : List ℕ). ls) (secret_labels table.secrets)) (flat_map mask_labels table.masks) l h) in
         omega arith
+
+pub whole_outside : (table : LabelTable) → IsLabelTable table → (cycles : ℕ) (labels : Labels) → IsWhole table labels → (l : ℕ) → label_count table cycles ≤ l → labels l ≡ false
+whole_outside table is cycles labels whole l past = go (cases_Bool (labels l))
+  where
+    go : (labels l ≡ true) ⊎ (labels l ≡ false) → labels l ≡ false
+    go (inr e) = e
+    go (inl e) = absurd (share (whole.no_mask l e))
+      where
+        share : (shares : List ℕ) × Contains (secret_labels table.secrets) shares × Contains shares l → ⊥
+        share (shares, listed, member) =
+            let below : l < table.declared = (is.each l).0 (Contains-append_left (flat_map (λ (ls : List ℕ). ls) (secret_labels table.secrets)) (flat_map mask_labels table.masks) l
+                (list_of_lists (secret_labels table.secrets) shares l listed member)) in
+            omega arith

@@ -1,3 +1,4 @@
 pub mod Sums
 pub mod NodeValues
 pub mod Laws
+pub mod Security

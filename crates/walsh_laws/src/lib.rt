@@ -3,6 +3,7 @@
 #![tactic(auto)]
 
 ghost use Rattle.walsh_laws.specs.Laws.{CorrelationLaw, CountingLaw};
+ghost use Rattle.walsh_laws.specs.Security.{NoFindingLaw};
 
 /// Where nodes correlate with labels, some selection has these labels as the symmetric difference of the nodes' sets.
 pub fn correlation_law()
@@ -13,4 +14,9 @@ pub fn correlation_law()
 /// secrets are.
 pub fn counting_law()
     ensures { CountingLaw }
+{}
+
+/// Where no finding of an order exists, the run is secure of this order.
+pub fn no_finding_law()
+    ensures { NoFindingLaw }
 {}
