@@ -13,3 +13,4 @@ pub mod RunNodes
 pub mod Listing
 pub mod Observed
 pub mod NoFinding
+pub mod InTime

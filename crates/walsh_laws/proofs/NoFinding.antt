@@ -1,25 +1,21 @@
 -- Where no finding exists, the run is secure.
-use Rattle.std.proofs.Common.{◌≡◌, ◌≢◌, ℕ, zero, suc, ◌<◌, ◌≤◌, ◌⊎◌, inl, inr, Bool, true, false, List, [], ◌∷◌, map, length, get_or, refl, sym, ◌∙◌, ap, subst, arith, ℤ, pos}
-use Rattle.std.specs.Prelude.{Contains, filter}
+use Rattle.std.proofs.Common.{◌≡◌, ◌≢◌, ℕ, suc, ◌<◌, ◌≤◌, ◌⊎◌, inl, inr, Bool, true, false, List, length, get_or, sym, ◌∙◌, ap, subst, arith, pos}
+use Rattle.std.specs.Prelude.{Contains}
 use Rattle.std.proofs.Math.IntN.{ℤ_discrete}
 use Rattle.std.proofs.Math.Path.{fun_ext}
-use Rattle.std.proofs.lemmas.Bool.{false≢true, cases_lt}
+use Rattle.std.proofs.lemmas.Bool.{cases_lt}
 use Rattle.std.proofs.lemmas.List.{get_or_past}
 use Rattle.std.proofs.lemmas.List.Elements.{filter_agree, Contains-get_or}
 use Rattle.coco_base.specs.declared.cell.Part.TheVariants.{Vary}
 use Rattle.coco_base.specs.declared.netlist.Flat.{Flat}
-use Rattle.coco_base.specs.declared.netlist.FlatFlop.{FlatFlop}
 use Rattle.coco_base.specs.declared.finding.Probe.{Probe}
-use Rattle.coco_base.specs.declared.setup.InputPlan.{InputPlan}
-use Rattle.coco_base.specs.declared.setup.WordPlan.{WordPlan}
 use Rattle.coco_base.specs.declared.setup.Start.{Start}
 use Rattle.coco_base.specs.declared.setup.Start.TheVariants.{Public}
 use Rattle.coco_base.specs.declared.setup.Setup.{Setup}
-use Rattle.coco_base.specs.declared.unrolled.Node.{Node}
 use Rattle.coco_base.specs.declared.unrolled.Node.TheVariants.{Nothing}
 use Rattle.coco_model.specs.Cells.{sign_total}
 use Rattle.coco_model.specs.Netlist.{Valuation}
-use Rattle.coco_model.specs.Labels.{Choice, choices, choices_with, label_count, parity, same_bits}
+use Rattle.coco_model.specs.Labels.{Choice, choices, choices_with, label_count, same_bits}
 use Rattle.coco_model.specs.Carried.{AreStarts, IsLabelled}
 use Rattle.coco_model.specs.Setups.{IsBoundTo}
 use Rattle.coco_model.specs.Run.{Memory, AreRuns, before}
@@ -27,25 +23,22 @@ use Rattle.coco_model.specs.Known.{Row, IsKnown}
 use Rattle.coco_model.specs.Controls.{AreControlsKnown}
 use Rattle.coco_model.specs.Calm.{IsCalm}
 use Rattle.coco_model.specs.Reach.{Reach, IsReach, IsReachedRow}
-use Rattle.coco_model.specs.Roots.{Root, IsRooted}
+use Rattle.coco_model.specs.Roots.{Root}
 use Rattle.coco_model.specs.Roots.Root.{nothing, output}
-use Rattle.coco_model.specs.Secure.{IsProbe, IsSecureFor, IsSecure, observation, count_showing}
-use Rattle.coco_model.specs.Findings.{Labels, IsWhole, IsSelection, IsSeen, set_of_pairs, IsFinding, HasFinding}
-use Rattle.coco_model.specs.Nodes.{IsNodeSet}
+use Rattle.coco_model.specs.Secure.{IsProbe, IsSecureFor, IsSecure, count_showing}
+use Rattle.coco_model.specs.Findings.{Labels, IsWhole, IsSeen, set_of_pairs, HasFinding}
 use Rattle.model_laws.proofs.Calms.{vary_or_not, before_below}
 use Rattle.model_laws.proofs.Unique.{one_known_law}
 use Rattle.model_laws.proofs.Rooted.{root_law}
 use Rattle.model_laws.proofs.Meanings.{meaning_law}
 use Rattle.model_laws.proofs.Selected.{root_sets_law}
 use Rattle.model_laws.proofs.Securely.{secure_law}
-use Rattle.model_laws.specs.Laws.{IsChecked, OneKnownLaw, RootLaw, IsRootInRange, HasMeaning, MeaningLaw, SecureLaw, RootSetsLaw, HasSelection}
-use Rattle.walsh_laws.specs.Sums.{parity_below}
-use Rattle.walsh_laws.specs.NodeValues.{AreNodeValues}
+use Rattle.model_laws.specs.Laws.{OneKnownLaw, RootLaw, HasMeaning, MeaningLaw, SecureLaw, RootSetsLaw, HasSelection}
 use Rattle.walsh_laws.specs.Laws.{is_odd, IsSelected, CorrelationLaw, IsShownSet, IsUncorrelated, count_with_values, CountingLaw}
-use Rattle.walsh_laws.specs.Security.{IsSimulated, NoFindingLaw}
+use Rattle.walsh_laws.specs.Security.{NoFindingLaw}
 use Rattle.walsh_laws.proofs.Correlation.{correlation_law}
 use Rattle.walsh_laws.proofs.Counting.{counting_law}
-use Rattle.walsh_laws.proofs.Numbering.{number_of, number_count, number-inside, number-apart, at_number, at_number-number}
+use Rattle.walsh_laws.proofs.Numbering.{number_count, number-inside, at_number, at_number-number}
 use Rattle.walsh_laws.proofs.Parity.{parity-cong_members}
 use Rattle.walsh_laws.proofs.WholeSets.{whole_outside}
 use Rattle.walsh_laws.proofs.RunNodes.{IsReady, index_of, nothing_node, run_nodes, run_values, are_nodes, are_values, value_at}
@@ -59,7 +52,6 @@ pub record IsReachReady (flat : Flat) (setup : Setup) (cycles : ℕ) (row calm :
 
 module _ (flat : Flat) (setup : Setup) (cycles : ℕ) (rank : ℕ → ℕ) (row : ℕ → Row) (word : ℕ → ℕ → Row) (root : ℕ → ℕ → Root) (rooted : ℕ → ℕ → ℕ → Root)
     (ready : IsReady flat setup cycles rank row word root rooted) (calm : ℕ → Row) (reach : Reach) (reached : IsReachReady flat setup cycles row calm reach) where
-
   leaf_inside : (p : Probe) → IsProbe flat setup cycles p → (l : ℕ) → Contains (reach p.cycle p.bit) l → l < flat.bits
   leaf_inside p is l h = reached_inside flat (calm p.cycle) l p.bit ready.range (((reached.reached p.cycle is.cycle p.bit is.bit).1 l).0 h) is.bit
 

@@ -1,18 +1,16 @@
 -- What probes observe, as values of nodes.
-use Rattle.std.proofs.Common.{◌≡◌, ◌≢◌, ℕ, zero, suc, ◌<◌, ◌≤◌, ◌⊎◌, inl, inr, Bool, true, false, List, [], ◌∷◌, ◌++◌, map, length, refl, sym, ◌∙◌, ap, subst, arith}
+use Rattle.std.proofs.Common.{◌≡◌, ℕ, zero, suc, ◌<◌, ◌⊎◌, inl, inr, Bool, List, [], ◌∷◌, ◌++◌, map, refl, sym, ◌∙◌, ap}
 use Rattle.std.specs.Prelude.{Contains, flat_map}
 use Rattle.std.proofs.lemmas.List.{map-append}
 use Rattle.coco_base.specs.declared.netlist.Flat.{Flat}
 use Rattle.coco_base.specs.declared.netlist.Wire.TheVariants.{Bit}
 use Rattle.coco_base.specs.declared.finding.Probe.{Probe}
-use Rattle.coco_base.specs.declared.setup.Setup.{Setup}
 use Rattle.coco_model.specs.Netlist.{Valuation, wires_of, IsInRange}
 use Rattle.coco_model.specs.Run.{before}
 use Rattle.coco_model.specs.Known.{Row}
-use Rattle.coco_model.specs.Reach.{Reach, Reaches, IsReachedRow}
+use Rattle.coco_model.specs.Reach.{Reach, Reaches}
 use Rattle.coco_model.specs.Reach.Reaches.{here, through}
-use Rattle.coco_model.specs.Secure.{IsProbe, observation}
-use Rattle.coco_model.specs.Findings.{Shows}
+use Rattle.coco_model.specs.Secure.{observation}
 use Rattle.coco_model.proofs.Basics.{Contains-here, Contains-later, Contains-cases, Contains-none}
 use Rattle.model_laws.proofs.Calms.{before_below, member_at}
 use Rattle.model_laws.proofs.Lists.{IsJoined, joined_of_flat_map}
@@ -45,7 +43,7 @@ leaves_observed bits cycles index value v numbered t below (l ∷ leaves) inside
     let a : value (index (before t) l) ≡ v (before t) l = numbered.each (before t) l (before_below t cycles below) (inside l (Contains-here l leaves)) in
     let b : value (index t l) ≡ v t l = numbered.each t l below (inside l (Contains-here l leaves)) in
     let c : flat_map (λ l. v (before t) l ∷ v t l ∷ []) leaves ≡ map value (flat_map (leaf_numbers index t) leaves) =
-        leaves_observed bits cycles index value v numbered t below leaves (λ k h. inside k (Contains-later l k leaves h)) in
+    leaves_observed bits cycles index value v numbered t below leaves (λ k h. inside k (Contains-later l k leaves h)) in
     rw (a, b, c) refl
 
 pub observed : (bits cycles : ℕ) (index : ℕ → ℕ → ℕ) (value : ℕ → Bool) (v : ℕ → Valuation) → AreNumbered bits cycles index value v → (reach : Reach) (probes : List Probe)
@@ -55,9 +53,9 @@ observed bits cycles index value v numbered reach [] inside = refl
 observed bits cycles index value v numbered reach (p ∷ probes) inside =
     let first = inside p (Contains-here p probes) in
     let head : flat_map (λ l. v (before p.cycle) l ∷ v p.cycle l ∷ []) (reach p.cycle p.bit) ≡ map value (probe_numbers index reach p) =
-        leaves_observed bits cycles index value v numbered p.cycle first.0 (reach p.cycle p.bit) first.1 in
+    leaves_observed bits cycles index value v numbered p.cycle first.0 (reach p.cycle p.bit) first.1 in
     let tail : observation reach v probes ≡ map value (shown_numbers index reach probes) =
-        observed bits cycles index value v numbered reach probes (λ q h. inside q (Contains-later p q probes h)) in
+    observed bits cycles index value v numbered reach probes (λ q h. inside q (Contains-later p q probes h)) in
     ap (λ bs. bs ++ observation reach v probes) head ∙ ap (λ bs. map value (probe_numbers index reach p) ++ bs) tail
     ∙ sym (map-append value (probe_numbers index reach p) (shown_numbers index reach probes))
 

@@ -108,7 +108,6 @@ cell_of flat driven b h = go (some_from_any (λ (c : FlatCell). c.output ≡ b) 
 -- facts on a root of a bit
 module _ (flat : Flat) (setup : Setup) (cycles : ℕ) (rank : ℕ → ℕ) (row : ℕ → Row) (word : ℕ → ℕ → Row) (root : ℕ → ℕ → Root) (rooted : ℕ → ℕ → ℕ → Root)
     (ready : IsReady flat setup cycles rank row word root rooted) where
-
   in_range : (t b : ℕ) → t < cycles → IsRootInRange flat (label_count setup.table cycles) t b (root t b)
   unfolding RootLaw
   in_range t b below = (root_law flat setup cycles rank row word ready.checked ready.starts root rooted ready.is_rooted t b below).3

@@ -200,5 +200,5 @@ whole_outside table is cycles labels whole l past = go (cases_Bool (labels l))
         share : (shares : List ℕ) × Contains (secret_labels table.secrets) shares × Contains shares l → ⊥
         share (shares, listed, member) =
             let below : l < table.declared = (is.each l).0 (Contains-append_left (flat_map (λ (ls : List ℕ). ls) (secret_labels table.secrets)) (flat_map mask_labels table.masks) l
-                (list_of_lists (secret_labels table.secrets) shares l listed member)) in
+            (list_of_lists (secret_labels table.secrets) shares l listed member)) in
             omega arith

@@ -3,7 +3,7 @@
 #![tactic(auto)]
 
 ghost use Rattle.walsh_laws.specs.Laws.{CorrelationLaw, CountingLaw};
-ghost use Rattle.walsh_laws.specs.Security.{NoFindingLaw};
+ghost use Rattle.walsh_laws.specs.Security.{NoFindingLaw, InTimeLaw};
 
 /// Where nodes correlate with labels, some selection has these labels as the symmetric difference of the nodes' sets.
 pub fn correlation_law()
@@ -19,4 +19,9 @@ pub fn counting_law()
 /// Where no finding of an order exists, the run is secure of this order.
 pub fn no_finding_law()
     ensures { NoFindingLaw }
+{}
+
+/// A run that is secure of an order is so under every order of gate events.
+pub fn in_time_law()
+    ensures { InTimeLaw }
 {}
