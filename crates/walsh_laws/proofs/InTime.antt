@@ -1,7 +1,6 @@
 -- A run that is secure is secure under every order of gate events: what probes observe determines the waveforms.
 use Rattle.std.proofs.Common.{◌≡◌, ℕ, ◌⊎◌, inl, inr, Bool, ◌&&◌, List, [], ◌∷◌, ◌++◌, length, refl, sym, ◌∙◌, ap, subst}
 use Rattle.std.specs.Prelude.{Contains, flat_map}
-use Rattle.std.proofs.Math.Path.{fun_ext}
 use Rattle.std.proofs.lemmas.List.{map-append}
 use Rattle.coco_base.specs.declared.netlist.Flat.{Flat}
 use Rattle.coco_base.specs.declared.finding.Probe.{Probe}
@@ -9,17 +8,15 @@ use Rattle.coco_base.specs.declared.setup.Setup.{Setup}
 use Rattle.coco_model.specs.Netlist.{Valuation}
 use Rattle.coco_model.specs.Labels.{Choice, label_count, secret_bits, same_bits}
 use Rattle.coco_model.specs.Run.{before}
-use Rattle.coco_model.specs.Controls.{AreControlsKnown}
 use Rattle.coco_model.specs.Reach.{Reach, IsReach}
 use Rattle.coco_model.specs.Events.{Event, waveform}
 use Rattle.coco_model.specs.Secure.{IsSecure, IsSecureFor, observation, count_showing}
 use Rattle.coco_model.specs.SecureInTime.{waveforms, same_waveforms, count_waving, IsSecureInTime}
 use Rattle.coco_model.proofs.Basics.{Contains-here, Contains-later, Contains-cases, Contains-none}
 use Rattle.model_laws.proofs.Calms.{waveform_law}
-use Rattle.model_laws.proofs.Unique.{one_known_law}
-use Rattle.model_laws.proofs.Meanings.{meaning_law}
-use Rattle.model_laws.specs.Laws.{IsChecked, OneKnownLaw, HasMeaning, MeaningLaw, WaveformLaw}
+use Rattle.model_laws.specs.Laws.{IsChecked, HasMeaning, WaveformLaw}
 use Rattle.walsh_laws.specs.Security.{InTimeLaw}
+use Rattle.walsh_laws.proofs.Ready.{checked_of, meaning_of, simulated_by}
 use Rattle.walsh_laws.proofs.Choices.{count, count-cong, filtered_twice}
 use Rattle.walsh_laws.proofs.Counts.{values_of, equal_determined}
 
@@ -124,20 +121,10 @@ in_time flat setup cycles rank reach is checked d secure run memory runs schedul
             (λ leaf reached. agree p h leaf (((is.reached p.cycle (each p h).cycle p.bit (each p h).bit).1 leaf).1 reached)) (schedule p.cycle)
 
 pub in_time_law : InTimeLaw
-unfolding InTimeLaw MeaningLaw OneKnownLaw IsSecure
-in_time_law flat setup cycles rank row word simulated d secure =
-    go (meaning_law flat setup cycles rank simulated.ranked simulated.bound_to.bound simulated.driven simulated.range)
+unfolding InTimeLaw IsSecure
+in_time_law flat setup cycles rank row word simulated d secure = go (meaning_of flat setup cycles rank row word simulated)
   where
     go : HasMeaning flat setup cycles → IsSecureInTime flat setup cycles d
-    go m = in_time flat setup cycles rank m.reach m.reaches checked d (secure m.reach m.reaches)
-      where
-        checked : IsChecked flat setup cycles rank m.reaches.row m.reaches.word
-        checked = record {
-          ranked = simulated.ranked;
-          bound = simulated.bound_to.bound;
-          has_controls = simulated.bound_to.controls;
-          known = m.reaches.known;
-          controls = λ t below. subst (AreControlsKnown setup)
-              (fun_ext (one_known_law flat setup cycles rank simulated.ranked simulated.bound_to.bound row m.reaches.row word m.reaches.word simulated.known m.reaches.known t below))
-              (simulated.controls t below);
-        }
+    go m = in_time flat setup cycles rank m.reach m.reaches
+        (checked_of flat setup cycles rank m.reaches.row m.reaches.word (simulated_by flat setup cycles rank row word simulated m.reaches.row m.reaches.word m.reaches.known))
+        d (secure m.reach m.reaches)

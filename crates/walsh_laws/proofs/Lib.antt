@@ -12,5 +12,8 @@ pub mod Homes
 pub mod RunNodes
 pub mod Listing
 pub mod Observed
+pub mod Ready
+pub mod RunCorrelation
+pub mod RunCounting
 pub mod NoFinding
 pub mod InTime

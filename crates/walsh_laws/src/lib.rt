@@ -3,7 +3,7 @@
 #![tactic(auto)]
 
 ghost use Rattle.walsh_laws.specs.Laws.{CorrelationLaw, CountingLaw};
-ghost use Rattle.walsh_laws.specs.Security.{NoFindingLaw, InTimeLaw};
+ghost use Rattle.walsh_laws.specs.Security.{RunCorrelationLaw, RunCountingLaw, NoFindingLaw, InTimeLaw};
 
 /// Where nodes correlate with labels, some selection has these labels as the symmetric difference of the nodes' sets.
 pub fn correlation_law()
@@ -14,6 +14,17 @@ pub fn correlation_law()
 /// secrets are.
 pub fn counting_law()
     ensures { CountingLaw }
+{}
+
+/// Where pairs of bit and cycle of a run correlate with labels, some selection has these labels as the pairs' set.
+pub fn run_correlation_law()
+    ensures { RunCorrelationLaw }
+{}
+
+/// Where what probes show correlates with no secret bits, equally many choices show any observation, whatever the secrets
+/// are.
+pub fn run_counting_law()
+    ensures { RunCountingLaw }
 {}
 
 /// Where no finding of an order exists, the run is secure of this order.
