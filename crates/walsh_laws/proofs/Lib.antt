@@ -17,3 +17,6 @@ pub mod RunCorrelation
 pub mod RunCounting
 pub mod NoFinding
 pub mod InTime
+pub mod Sorting
+pub mod NodeNumbers
+pub mod Writing

@@ -26,7 +26,7 @@ use Rattle.walsh_laws.proofs.Numbering.{number_count, number-inside}
 use Rattle.walsh_laws.proofs.RunNodes.{IsReady, index_of, run_nodes, run_values, are_nodes, are_values, value_at}
 use Rattle.walsh_laws.proofs.Ready.{ready_of}
 
-map-cong : {X Y : Type 0} (f g : X → Y) (xs : List X) → ((x : X) → Contains xs x → f x ≡ g x) → map f xs ≡ map g xs
+pub map-cong : {X Y : Type 0} (f g : X → Y) (xs : List X) → ((x : X) → Contains xs x → f x ≡ g x) → map f xs ≡ map g xs
 map-cong f g [] same = refl
 map-cong f g (x ∷ xs) same =
     ap (λ y. y ∷ map f xs) (same x (Contains-here x xs)) ∙ ap (λ ys. g x ∷ ys) (map-cong f g xs (λ y h. same y (Contains-later x y xs h)))
@@ -44,7 +44,7 @@ parity-numbers n number (x ∷ xs) v below =
 
 module _ (flat : Flat) (setup : Setup) (cycles : ℕ) (rank : ℕ → ℕ) (row : ℕ → Row) (word : ℕ → ℕ → Row) (root : ℕ → ℕ → Root) (rooted : ℕ → ℕ → ℕ → Root)
     (ready : IsReady flat setup cycles rank row word root rooted) where
-  output_not_later : (t b s c : ℕ) → t < cycles → root t b ≡ output s c → s ≤ t
+  pub output_not_later : (t b s c : ℕ) → t < cycles → root t b ≡ output s c → s ≤ t
   unfolding RootLaw
   output_not_later t b s c below e = go ((root_law flat setup cycles rank row word ready.checked ready.starts root rooted ready.is_rooted t b below).3.earlier s c e)
     where

@@ -2,3 +2,4 @@ pub mod Sums
 pub mod NodeValues
 pub mod Laws
 pub mod Security
+pub mod Written
