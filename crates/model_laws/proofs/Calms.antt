@@ -99,7 +99,7 @@ pub record AreCalm (flat : Flat) (rank : ℕ → ℕ) (calm : Row) (old new : Va
   pub old_allowed : AllowsRow calm old
   pub new_allowed : AllowsRow calm new
 
-before_below : (t cycles : ℕ) → t < cycles → before t < cycles
+pub before_below : (t cycles : ℕ) → t < cycles → before t < cycles
 before_below zero cycles below = below
 before_below (suc t) cycles below = omega arith
 
@@ -148,7 +148,7 @@ allows_both Zero a b = absurd cc
 allows_both One a b = absurd cc
 allows_both Vary a b = refl
 
-Bool_same : (a b : Bool) → (a ≡ b) ⊎ (a ≢ b)
+pub Bool_same : (a b : Bool) → (a ≡ b) ⊎ (a ≢ b)
 Bool_same true true = inl refl
 Bool_same false false = inl refl
 Bool_same true false = inr (λ e. cc)
@@ -196,7 +196,7 @@ vary_or_not One = inr (λ e. cc)
 vary_or_not Vary = inl refl
 
 -- a bit that stands at a place is a member
-member_at : (ws : List Wire) (place n : ℕ) → get_or ws place (Const false) ≡ Bit n → Contains ws (Bit n)
+pub member_at : (ws : List Wire) (place n : ℕ) → get_or ws place (Const false) ≡ Bit n → Contains ws (Bit n)
 member_at [] place n e = absurd cc
 member_at (w ∷ ws) zero n e = subst (Contains (w ∷ ws)) e (Contains-here w ws)
 member_at (w ∷ ws) (suc place) n e = Contains-later w (Bit n) ws (member_at ws place n e)

@@ -7,3 +7,13 @@ pub mod Knowing
 pub mod Calms
 pub mod Unique
 pub mod Rooted
+pub mod Ascending
+pub mod Reached
+pub mod Ends
+pub mod Lives
+pub mod Connected
+pub mod Apart
+pub mod Solved
+pub mod Sources
+pub mod Exists
+pub mod Meanings

@@ -49,10 +49,10 @@ Contains-flat_map f (z ∷ xs) x y h i = go (Contains-cases z x xs h) (λ j. Con
     go (inl e) rest = Contains-append_left (f z) (flat_map f xs) y (subst (λ u. Contains (f u) y) (sym e) i)
     go (inr j) rest = Contains-append_right (f z) (flat_map f xs) y (rest j)
 
--- a list has a member of which P holds, or none
-pub some_or_none : {X : Type 0} (P : X → Type 0) → ((x : X) → P x ⊎ (P x → ⊥)) → (xs : List X) → IsSome P xs ⊎ ((x : X) → Contains xs x → P x → ⊥)
-some_or_none P decide [] = inr (λ x h p. Contains-none x h)
-some_or_none P decide (x ∷ xs) = go (decide x) (some_or_none P decide xs)
+-- a list has a member of which P holds, or none, where P is decided of members
+pub some_member_or_none : {X : Type 0} (P : X → Type 0) (xs : List X) → ((x : X) → Contains xs x → P x ⊎ (P x → ⊥)) → IsSome P xs ⊎ ((x : X) → Contains xs x → P x → ⊥)
+some_member_or_none P [] decide = inr (λ x h p. Contains-none x h)
+some_member_or_none P (x ∷ xs) decide = go (decide x (Contains-here x xs)) (some_member_or_none P xs (λ y h. decide y (Contains-later x y xs h)))
   where
     go : P x ⊎ (P x → ⊥) → IsSome P xs ⊎ ((y : _) → Contains xs y → P y → ⊥) → IsSome P (x ∷ xs) ⊎ ((y : _) → Contains (x ∷ xs) y → P y → ⊥)
     go (inl p) rest = inl (record { member = x; listed = Contains-here x xs; holds = p })
@@ -62,6 +62,9 @@ some_or_none P decide (x ∷ xs) = go (decide x) (some_or_none P decide xs)
         later : (y : _) → P y → (x ≡ y) ⊎ Contains xs y → ⊥
         later y p (inl e) = n (subst P (sym e) p)
         later y p (inr i) = none y i p
+
+pub some_or_none : {X : Type 0} (P : X → Type 0) → ((x : X) → P x ⊎ (P x → ⊥)) → (xs : List X) → IsSome P xs ⊎ ((x : X) → Contains xs x → P x → ⊥)
+some_or_none P decide xs = some_member_or_none P xs (λ x h. decide x)
 
 -- P holds of every member of a list, or not of some
 pub all_or_not : {X : Type 0} (P : X → Type 0) → ((x : X) → P x ⊎ (P x → ⊥)) → (xs : List X) → ((x : X) → Contains xs x → P x) ⊎ (((x : X) → Contains xs x → P x) → ⊥)

@@ -74,7 +74,7 @@ one_known_law flat setup cycles rank ranked bound row other word others known kn
     })
     known.carried known_other.carried t below).bits
 
-wire_root-cong : (s u : ℕ → Root) (w : Wire) → ((b : ℕ) → w ≡ Bit b → s b ≡ u b) → wire_root s w ≡ wire_root u w
+pub wire_root-cong : (s u : ℕ → Root) (w : Wire) → ((b : ℕ) → w ≡ Bit b → s b ≡ u b) → wire_root s w ≡ wire_root u w
 wire_root-cong s u (Const b) same = refl
 wire_root-cong s u (Bit n) same = same n refl
 
@@ -124,20 +124,20 @@ Part_same One Vary = inr (λ e. cc)
 Part_same Vary Zero = inr (λ e. cc)
 Part_same Vary One = inr (λ e. cc)
 
+-- a wire is the same in two cycles or not
+pub steady_or_not : (old now : Row) (old_root now_root : ℕ → Root) (w : Wire) → IsSteady old now old_root now_root w ⊎ (IsSteady old now old_root now_root w → ⊥)
+steady_or_not old now old_root now_root w = go (Part_same (wire_part old w) (wire_part now w)) (Root_same (wire_root old_root w) (wire_root now_root w))
+  where
+    go : (wire_part old w ≡ wire_part now w) ⊎ (wire_part old w ≢ wire_part now w) → (wire_root old_root w ≡ wire_root now_root w) ⊎ (wire_root old_root w ≢ wire_root now_root w)
+        → IsSteady old now old_root now_root w ⊎ (IsSteady old now old_root now_root w → ⊥)
+    go (inl e) (inl f) = inl (record { part = e; root = f })
+    go (inl e) (inr n) = inr (λ s. n s.root)
+    go (inr n) f = inr (λ s. n s.part)
+
 -- a cell keeps its root or not
 pub kept_or_not : (row : ℕ → Row) (root : ℕ → ℕ → Root) (t : ℕ) (c : FlatCell) → IsKept row root t c ⊎ (IsKept row root t c → ⊥)
 kept_or_not row root zero c = inr (λ h. h)
-kept_or_not row root (suc t) c = all_or_not (λ w. IsSteady (row t) (row (suc t)) (root t) (root (suc t)) w) decide (wires_of c)
-  where
-    decide : (w : Wire) → IsSteady (row t) (row (suc t)) (root t) (root (suc t)) w ⊎ (IsSteady (row t) (row (suc t)) (root t) (root (suc t)) w → ⊥)
-    decide w = go (Part_same (wire_part (row t) w) (wire_part (row (suc t)) w)) (Root_same (wire_root (root t) w) (wire_root (root (suc t)) w))
-      where
-        go : (wire_part (row t) w ≡ wire_part (row (suc t)) w) ⊎ (wire_part (row t) w ≢ wire_part (row (suc t)) w)
-            → (wire_root (root t) w ≡ wire_root (root (suc t)) w) ⊎ (wire_root (root t) w ≢ wire_root (root (suc t)) w)
-            → IsSteady (row t) (row (suc t)) (root t) (root (suc t)) w ⊎ (IsSteady (row t) (row (suc t)) (root t) (root (suc t)) w → ⊥)
-        go (inl e) (inl f) = inl (record { part = e; root = f })
-        go (inl e) (inr n) = inr (λ s. n s.root)
-        go (inr n) f = inr (λ s. n s.part)
+kept_or_not row root (suc t) c = all_or_not (λ w. IsSteady (row t) (row (suc t)) (root t) (root (suc t)) w) (λ w. steady_or_not (row t) (row (suc t)) (root t) (root (suc t)) w) (wires_of c)
 
 -- a cell's root is one
 one_cell_root : (row : ℕ → Row) (root other : ℕ → ℕ → Root) (t : ℕ) (c : FlatCell) → HasCellRoot row root t c → HasCellRoot row other t c

@@ -1,7 +1,7 @@
 //! The laws of runs, each the contract of a function that does nothing: what is settled, known, calm, reached and rooted.
 #![tactic(auto)]
 
-ghost use Rattle.model_laws.specs.Laws.{OneSettledLaw, OneForcedLaw, KnownLaw, RequestsLaw, CalmLaw, WaveformLaw, RootLaw, OneRunLaw, OneKnownLaw, OneRootedLaw};
+ghost use Rattle.model_laws.specs.Laws.{OneSettledLaw, OneForcedLaw, KnownLaw, RequestsLaw, CalmLaw, WaveformLaw, RootLaw, OneRunLaw, OneKnownLaw, OneRootedLaw, OneReachLaw, OneWideReachLaw, MeaningLaw, EndLaw};
 
 /// Two settled valuations that agree on the bits that no cell drives are one, where no cells make a loop.
 pub fn one_settled_law()
@@ -53,4 +53,25 @@ pub fn one_known_law()
 /// The roots of a run are one.
 pub fn one_rooted_law()
     ensures { OneRootedLaw }
+{}
+
+/// What a probe reaches is one.
+pub fn one_reach_law()
+    ensures { OneReachLaw }
+{}
+
+/// The coarser reach by structure alone is one.
+pub fn one_wide_reach_law()
+    ensures { OneWideReachLaw }
+{}
+
+/// A netlist without loops and with one driver for each bit, and a setup that binds its inputs, have runs, known values,
+/// roots and reaches.
+pub fn meaning_law()
+    ensures { MeaningLaw }
+{}
+
+/// The events of all leaves and then of all cells in order end in the settled valuation of the new leaves.
+pub fn end_law()
+    ensures { EndLaw }
 {}
