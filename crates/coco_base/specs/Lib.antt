@@ -1,0 +1,4 @@
+pub mod LabelSets
+pub mod Causes
+pub mod Memory
+pub mod Outside

@@ -1,25 +1,23 @@
-ghost use Rattle.std.specs.Prelude.{◌≡◌, ℕ, [], IfOk, IsTrue, ◌↔◌, Contains};
-ghost use Rattle.std.specs.List.Sorted.{IsStrictlyIncreasing};
+ghost use Rattle.std.specs.Prelude.{◌≡◌, ℕ, [], ◌∷◌, IfOk};
+ghost use Rattle.coco_base.specs.LabelSets.{has};
 
 use crate::fault::NoMemory;
 use std::alloc::Global;
+use std::collections::BTreeSet;
 use std::marker::Model;
 
-/// A finite set of label numbers.
+/// A finite set of label numbers, seen by contracts as its members in ascending order.
 #[derive(Debug, Drop)]
 pub struct LabelSet {
-    members: Vec<u32>,
+    labels: BTreeSet<u32>,
 }
 
 impl Model for LabelSet {
     ghost use Rattle.std.specs.Prelude.{ℕ, List};
-    ghost use Rattle.std.specs.List.Sorted.{IsStrictlyIncreasing};
 
     ghost Value = { List ℕ };
 
-    ghost view = { λ s. s.members.items };
-
-    ghost invariant = { λ s. IsStrictlyIncreasing s.members.items };
+    ghost view = { λ s. s.labels.keys };
 }
 
 impl LabelSet {
@@ -28,7 +26,23 @@ impl LabelSet {
         ensures { result ≡ [] }
     {
         LabelSet {
-            members: Vec::new(alloc),
+            labels: BTreeSet::new(alloc),
         }
+    }
+
+    /// The set of one label.
+    pub fn of(alloc: Global, label: u32) -> Result<Self, NoMemory>
+        ensures { IfOk result (λ s. s ≡ label ∷ []) }
+    {
+        let mut labels = BTreeSet::new(alloc);
+        labels.insert(label)?;
+        Ok(LabelSet { labels })
+    }
+
+    /// Whether the label is a member.
+    pub fn has(&self, label: u32) -> bool
+        ensures { result ≡ has self.now label }
+    {
+        self.labels.contains(&label)
     }
 }

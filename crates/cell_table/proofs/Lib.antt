@@ -1,0 +1,5 @@
+pub mod Listed
+pub mod Tables
+pub mod Sums
+pub mod LawLemmas
+pub mod Expansion
