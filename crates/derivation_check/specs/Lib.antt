@@ -1,0 +1,3 @@
+pub mod Marked
+pub mod Verdicts
+pub mod Laws

@@ -1,0 +1,11 @@
+//! Checks derivations, prints them and the clauses that they start from, and reads them.
+#![tactic(auto)]
+
+mod chain;
+pub mod laws;
+mod line;
+mod marks;
+pub mod verdict;
+
+pub use laws::refutations_are_sound;
+pub use verdict::{Verdict, check};
