@@ -5,3 +5,4 @@ pub mod Chains
 pub mod Takings
 pub mod Lines
 pub mod Refutations
+pub mod Printing

@@ -5,7 +5,9 @@ mod chain;
 pub mod laws;
 mod line;
 mod marks;
+pub mod print;
 pub mod verdict;
 
 pub use laws::refutations_are_sound;
+pub use print::{print_derivation, print_formula};
 pub use verdict::{Verdict, check};
