@@ -1,5 +1,5 @@
 -- Calm bits keep still, and bits whose reached leaves agree show one waveform, under every schedule of gate events.
-use Rattle.std.proofs.Common.{◌≡◌, ◌≢◌, ℕ, zero, suc, ◌<◌, ◌⊎◌, inl, inr, Bool, true, false, cond, nat_eq, List, [], ◌∷◌, map, get_or, set, refl, sym, ◌∙◌, ap, subst, arith}
+use Rattle.std.proofs.Common.{◌≡◌, ◌≢◌, ℕ, zero, suc, ◌<◌, ◌⊎◌, inl, inr, Bool, true, false, cond, nat_eq, List, [], ◌∷◌, map, get_or, set, refl, sym, ◌∙◌, ap, subst}
 use Rattle.std.specs.Prelude.{Contains, slice_get, Option, Some, None}
 use Rattle.std.proofs.Math.ListN.{get_or-map}
 use Rattle.std.proofs.lemmas.Bool.{cases_Bool, eqb-true}
@@ -20,6 +20,7 @@ use Rattle.coco_model.specs.Reach.{Reaches}
 use Rattle.coco_model.specs.Reach.Reaches.{here, through}
 use Rattle.coco_model.specs.Events.{Event, put, put_cell, after_event, waveform}
 use Rattle.coco_model.specs.Events.Event.{leaf, cell}
+use Rattle.coco_model.proofs.Keepers.{before_below}
 use Rattle.coco_model.proofs.Basics.{Contains-here, Contains-later, Contains-cases, Contains-none}
 use Rattle.model_laws.proofs.Lists.{member_of_place}
 use Rattle.model_laws.proofs.Ranks.{by_rank}
@@ -104,10 +105,6 @@ pub record AreCalm (flat : Flat) (rank : ℕ → ℕ) (calm : Row) (old new : Va
   pub new_settled : IsSettled flat new
   pub old_allowed : AllowsRow calm old
   pub new_allowed : AllowsRow calm new
-
-pub before_below : (t cycles : ℕ) → t < cycles → before t < cycles
-before_below zero cycles below = below
-before_below (suc t) cycles below = omega arith
 
 calm_cycle : (flat : Flat) (setup : Setup) (cycles : ℕ) (rank : ℕ → ℕ) (row : ℕ → Row) (word : ℕ → ℕ → Row)
     → IsChecked flat setup cycles rank row word

@@ -12,7 +12,7 @@ use Rattle.coco_model.specs.Calm.{both}
 use Rattle.coco_model.specs.Reach.{Reach, Reaches, IsReach}
 use Rattle.model_laws.proofs.Forced.{one_forced_row}
 use Rattle.model_laws.proofs.Unique.{one_known_law}
-use Rattle.model_laws.proofs.Calms.{before_below}
+use Rattle.coco_model.proofs.Keepers.{before_below}
 use Rattle.model_laws.proofs.Ascending.{same_ascending}
 use Rattle.model_laws.specs.Laws.{OneKnownLaw, OneReachLaw, OneWideReachLaw}
 
