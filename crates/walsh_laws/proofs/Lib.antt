@@ -7,3 +7,5 @@ pub mod Choices
 pub mod Counts
 pub mod WholeSets
 pub mod Counting
+pub mod Numbering
+pub mod Homes
