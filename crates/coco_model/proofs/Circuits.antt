@@ -39,7 +39,8 @@ mux_zero_live : (place : ℕ) → IsLiveInput Mux (Vary ∷ Vary ∷ Zero ∷ []
 mux_zero_live zero live = refl
 mux_zero_live (suc zero) live = absurd (go live.inputs live.allowed live.changes)
   where
-    go : (inputs : List Bool) → AllowsAll (Vary ∷ Vary ∷ Zero ∷ []) inputs → output_of Mux (set inputs 1 false) ≢ output_of Mux (set inputs 1 true) → ⊥
+    go : (inputs : List Bool) → AllowsAll (Vary ∷ Vary ∷ Zero ∷ []) inputs
+        → output_of Mux (set inputs 1 false) ≢ output_of Mux (set inputs 1 true) → ⊥
     go (a ∷ b ∷ true ∷ []) allowed changes = let e = allowed.1.1.0 in cc
     go (a ∷ b ∷ false ∷ []) allowed changes = changes refl
     go [] allowed changes = allowed
@@ -53,7 +54,8 @@ mux_one_live : (place : ℕ) → IsLiveInput Mux (Vary ∷ Vary ∷ One ∷ []) 
 mux_one_live (suc zero) live = refl
 mux_one_live zero live = absurd (go live.inputs live.allowed live.changes)
   where
-    go : (inputs : List Bool) → AllowsAll (Vary ∷ Vary ∷ One ∷ []) inputs → output_of Mux (set inputs 0 false) ≢ output_of Mux (set inputs 0 true) → ⊥
+    go : (inputs : List Bool) → AllowsAll (Vary ∷ Vary ∷ One ∷ []) inputs
+        → output_of Mux (set inputs 0 false) ≢ output_of Mux (set inputs 0 true) → ⊥
     go (a ∷ b ∷ false ∷ []) allowed changes = let e = allowed.1.1.0 in cc
     go (a ∷ b ∷ true ∷ []) allowed changes = changes refl
     go [] allowed changes = allowed
@@ -83,7 +85,8 @@ second_live = record {
 all_live : (place : ℕ) → place < 3 → IsLiveInput Mux (Vary ∷ Vary ∷ Vary ∷ []) place
 all_live zero below = record { varies = refl; inputs = false ∷ false ∷ false ∷ []; allowed = (tt, (tt, (tt, tt))); changes = λ e. cc }
 all_live (suc zero) below = record { varies = refl; inputs = false ∷ false ∷ true ∷ []; allowed = (tt, (tt, (tt, tt))); changes = λ e. cc }
-all_live (suc (suc zero)) below = record { varies = refl; inputs = false ∷ true ∷ false ∷ []; allowed = (tt, (tt, (tt, tt))); changes = λ e. cc }
+all_live (suc (suc zero)) below =
+    record { varies = refl; inputs = false ∷ true ∷ false ∷ []; allowed = (tt, (tt, (tt, tt))); changes = λ e. cc }
 all_live (suc (suc (suc place))) below = absurd (omega arith)
 
 abbrev selector : Text → FlatCell
@@ -101,7 +104,8 @@ selector_bit name b h = let s = some_from_any (λ (c : FlatCell). c.output ≡ b
     ap (λ (c : FlatCell). c.output) (only_selector name s.member s.listed) ∙ s.holds
 
 -- the source of the multiplexer's input at a place
-selector_source : (place from : ℕ) → get_or (Bit 2 ∷ Bit 3 ∷ Bit 1 ∷ []) place (Const false) ≡ Bit from → (place < 3) × (get_or (2 ∷ 3 ∷ 1 ∷ []) place 4 ≡ from)
+selector_source : (place from : ℕ) → get_or (Bit 2 ∷ Bit 3 ∷ Bit 1 ∷ []) place (Const false) ≡ Bit from
+    → (place < 3) × (get_or (2 ∷ 3 ∷ 1 ∷ []) place 4 ≡ from)
 selector_source zero from e = (omega arith, cc)
 selector_source (suc zero) from e = (omega arith, cc)
 selector_source (suc (suc zero)) from e = (omega arith, cc)
@@ -114,7 +118,8 @@ pub record IsSelecting (select : Part) (calm : Row) : Type 0 where
   pub second : calm 3 ≡ Vary
   pub out : calm 4 ≡ Vary
 
-selector_parts : (select : Part) (calm : Row) → IsSelecting select calm → ◌≡◌ {A = List Part} (calm 2 ∷ calm 3 ∷ calm 1 ∷ []) (Vary ∷ Vary ∷ select ∷ [])
+selector_parts : (select : Part) (calm : Row) → IsSelecting select calm
+    → ◌≡◌ {A = List Part} (calm 2 ∷ calm 3 ∷ calm 1 ∷ []) (Vary ∷ Vary ∷ select ∷ [])
 selector_parts select calm s = let e = s.select_is in let f = s.first in let g = s.second in cc
 
 -- no source of the multiplexer is its own output
@@ -131,7 +136,8 @@ pub record IsThroughPlace (select : Part) (leaf : ℕ) : Type 0 where
   live : IsLiveInput Mux (Vary ∷ Vary ∷ select ∷ []) place
   source : get_or (2 ∷ 3 ∷ 1 ∷ []) place 4 ≡ leaf
 
-through_place : (name : Text) (select : Part) (calm : Row) → IsSelecting select calm → (leaf : ℕ) → Reaches (selected_shares name) calm leaf 4 → IsThroughPlace select leaf
+through_place : (name : Text) (select : Part) (calm : Row) → IsSelecting select calm → (leaf : ℕ)
+    → Reaches (selected_shares name) calm leaf 4 → IsThroughPlace select leaf
 through_place name select calm s leaf walk = go step
   where
     step : IsStep (selected_shares name) calm leaf 4
@@ -154,7 +160,8 @@ through_place name select calm s leaf walk = go step
           source = source.1 ∙ sym at_leaf;
         }
 
-from_place : (name : Text) (select : Part) (calm : Row) → IsSelecting select calm → (place leaf : ℕ) → place < 3 → IsLiveInput Mux (Vary ∷ Vary ∷ select ∷ []) place
+from_place : (name : Text) (select : Part) (calm : Row) → IsSelecting select calm → (place leaf : ℕ) → place < 3
+    → IsLiveInput Mux (Vary ∷ Vary ∷ select ∷ []) place
     → get_or (2 ∷ 3 ∷ 1 ∷ []) place 4 ≡ leaf → calm leaf ≡ Vary → Reaches (selected_shares name) calm leaf 4
 from_place name select calm s place leaf below live source varies =
     through 4 (selector name) place leaf (Contains-here (selector name) []) refl s.out
@@ -162,41 +169,49 @@ from_place name select calm s place leaf below live source varies =
     (wired place below source)
     (here (λ h. source_apart place leaf below source (selector_bit name leaf h)) varies)
   where
-    wired : (place : ℕ) → place < 3 → get_or (2 ∷ 3 ∷ 1 ∷ []) place 4 ≡ leaf → get_or (Bit 2 ∷ Bit 3 ∷ Bit 1 ∷ []) place (Const false) ≡ Bit leaf
+    wired : (place : ℕ) → place < 3 → get_or (2 ∷ 3 ∷ 1 ∷ []) place 4 ≡ leaf
+        → get_or (Bit 2 ∷ Bit 3 ∷ Bit 1 ∷ []) place (Const false) ≡ Bit leaf
     wired zero below e = ap Bit e
     wired (suc zero) below e = ap Bit e
     wired (suc (suc zero)) below e = ap Bit e
     wired (suc (suc (suc place))) below e = absurd (omega arith)
 
-pub reached_first : (name : Text) (calm : Row) → IsSelecting Zero calm → (leaf : ℕ) → Reaches (selected_shares name) calm leaf 4 ↔ Contains (2 ∷ []) leaf
+pub reached_first : (name : Text) (calm : Row) → IsSelecting Zero calm → (leaf : ℕ)
+    → Reaches (selected_shares name) calm leaf 4 ↔ Contains (2 ∷ []) leaf
 reached_first name calm s leaf = (to, from)
   where
     to : Reaches (selected_shares name) calm leaf 4 → Contains (2 ∷ []) leaf
     to walk = let t = through_place name Zero calm s leaf walk in
-        subst (Contains (2 ∷ [])) (subst (λ place. get_or (2 ∷ 3 ∷ 1 ∷ []) place 4 ≡ leaf) (mux_zero_live t.place t.live) t.source) (Contains-here 2 [])
+        subst (Contains (2 ∷ [])) (subst (λ place. get_or (2 ∷ 3 ∷ 1 ∷ []) place 4 ≡ leaf) (mux_zero_live t.place t.live) t.source)
+        (Contains-here 2 [])
 
     from : Contains (2 ∷ []) leaf → Reaches (selected_shares name) calm leaf 4
     from h = go (Contains-cases 2 leaf [] h)
       where
         go : (2 ≡ leaf) ⊎ Contains [] leaf → Reaches (selected_shares name) calm leaf 4
-        go (inl e) = subst (λ l. Reaches (selected_shares name) calm l 4) e (from_place name Zero calm s 0 2 (omega arith) first_live refl s.first)
+        go (inl e) =
+            subst (λ l. Reaches (selected_shares name) calm l 4) e (from_place name Zero calm s 0 2 (omega arith) first_live refl s.first)
         go (inr none) = absurd (Contains-none leaf none)
 
-pub reached_second : (name : Text) (calm : Row) → IsSelecting One calm → (leaf : ℕ) → Reaches (selected_shares name) calm leaf 4 ↔ Contains (3 ∷ []) leaf
+pub reached_second : (name : Text) (calm : Row) → IsSelecting One calm → (leaf : ℕ)
+    → Reaches (selected_shares name) calm leaf 4 ↔ Contains (3 ∷ []) leaf
 reached_second name calm s leaf = (to, from)
   where
     to : Reaches (selected_shares name) calm leaf 4 → Contains (3 ∷ []) leaf
     to walk = let t = through_place name One calm s leaf walk in
-        subst (Contains (3 ∷ [])) (subst (λ place. get_or (2 ∷ 3 ∷ 1 ∷ []) place 4 ≡ leaf) (mux_one_live t.place t.live) t.source) (Contains-here 3 [])
+        subst (Contains (3 ∷ [])) (subst (λ place. get_or (2 ∷ 3 ∷ 1 ∷ []) place 4 ≡ leaf) (mux_one_live t.place t.live) t.source)
+        (Contains-here 3 [])
 
     from : Contains (3 ∷ []) leaf → Reaches (selected_shares name) calm leaf 4
     from h = go (Contains-cases 3 leaf [] h)
       where
         go : (3 ≡ leaf) ⊎ Contains [] leaf → Reaches (selected_shares name) calm leaf 4
-        go (inl e) = subst (λ l. Reaches (selected_shares name) calm l 4) e (from_place name One calm s 1 3 (omega arith) second_live refl s.second)
+        go (inl e) =
+            subst (λ l. Reaches (selected_shares name) calm l 4) e (from_place name One calm s 1 3 (omega arith) second_live refl s.second)
         go (inr none) = absurd (Contains-none leaf none)
 
-pub reached_all : (name : Text) (calm : Row) → IsSelecting Vary calm → (leaf : ℕ) → Reaches (selected_shares name) calm leaf 4 ↔ Contains (1 ∷ 2 ∷ 3 ∷ []) leaf
+pub reached_all : (name : Text) (calm : Row) → IsSelecting Vary calm → (leaf : ℕ)
+    → Reaches (selected_shares name) calm leaf 4 ↔ Contains (1 ∷ 2 ∷ 3 ∷ []) leaf
 reached_all name calm s leaf = (to, from)
   where
     listed : (place : ℕ) → place < 3 → Contains {X = ℕ} (1 ∷ 2 ∷ 3 ∷ []) (get_or (2 ∷ 3 ∷ 1 ∷ []) place 4)
@@ -206,10 +221,13 @@ reached_all name calm s leaf = (to, from)
     listed (suc (suc (suc place))) below = absurd (omega arith)
 
     to : Reaches (selected_shares name) calm leaf 4 → Contains (1 ∷ 2 ∷ 3 ∷ []) leaf
-    to walk = let t = through_place name Vary calm s leaf walk in subst (Contains {X = ℕ} (1 ∷ 2 ∷ 3 ∷ [])) t.source (listed t.place t.below)
+    to walk =
+        let t = through_place name Vary calm s leaf walk in subst (Contains {X = ℕ} (1 ∷ 2 ∷ 3 ∷ [])) t.source (listed t.place t.below)
 
-    at_place : (place : ℕ) → place < 3 → calm (get_or (2 ∷ 3 ∷ 1 ∷ []) place 4) ≡ Vary → get_or (2 ∷ 3 ∷ 1 ∷ []) place 4 ≡ leaf → Reaches (selected_shares name) calm leaf 4
-    at_place place below varies e = from_place name Vary calm s place leaf below (all_live place below) e (subst (λ l. calm l ≡ Vary) e varies)
+    at_place : (place : ℕ) → place < 3 → calm (get_or (2 ∷ 3 ∷ 1 ∷ []) place 4) ≡ Vary → get_or (2 ∷ 3 ∷ 1 ∷ []) place 4 ≡ leaf
+        → Reaches (selected_shares name) calm leaf 4
+    at_place place below varies e =
+        from_place name Vary calm s place leaf below (all_live place below) e (subst (λ l. calm l ≡ Vary) e varies)
 
     from : Contains (1 ∷ 2 ∷ 3 ∷ []) leaf → Reaches (selected_shares name) calm leaf 4
     from h = go (Contains-cases 1 leaf (2 ∷ 3 ∷ []) h)
@@ -232,7 +250,8 @@ select_plan = record { bit = 1; values = Public false ∷ Public true ∷ [] }
 pub selected_reach : (name : Text) (reach : Reach) → IsReach (selected_shares name) (selected_setup name) 3 reach → IsSelectedReach reach
 selected_reach name reach r = record {
   zero = λ leaf. at_row 0 (omega arith) leaf (2 ∷ []) (reached_first name (r.calm 0) (selecting 0 (omega arith) Zero still_zero) leaf);
-  changing = λ leaf. at_row 1 (omega arith) leaf (1 ∷ 2 ∷ 3 ∷ []) (reached_all name (r.calm 1) (selecting 1 (omega arith) Vary changing) leaf);
+  changing =
+      λ leaf. at_row 1 (omega arith) leaf (1 ∷ 2 ∷ 3 ∷ []) (reached_all name (r.calm 1) (selecting 1 (omega arith) Vary changing) leaf);
   one = λ leaf. at_row 2 (omega arith) leaf (3 ∷ []) (reached_second name (r.calm 2) (selecting 2 (omega arith) One still_one) leaf);
 }
   where
@@ -243,10 +262,14 @@ selected_reach name reach r = record {
     second_listed = Contains-later (keeper name 2) (keeper name 3) (keeper name 3 ∷ []) (Contains-here (keeper name 3) [])
 
     first_share : (t : ℕ) → t < 3 → r.row t 2 ≡ Vary
-    first_share = kept_known (selected_shares name) (selected_setup name) 3 r.row r.word r.known (keeper name 2) first_listed refl Vary (r.known.carried.first.flops (keeper name 2) first_listed)
+    first_share =
+        kept_known (selected_shares name)
+        (selected_setup name) 3 r.row r.word r.known (keeper name 2) first_listed refl Vary (r.known.carried.first.flops (keeper name 2) first_listed)
 
     second_share : (t : ℕ) → t < 3 → r.row t 3 ≡ Vary
-    second_share = kept_known (selected_shares name) (selected_setup name) 3 r.row r.word r.known (keeper name 3) second_listed refl Vary (r.known.carried.first.flops (keeper name 3) second_listed)
+    second_share =
+        kept_known (selected_shares name)
+        (selected_setup name) 3 r.row r.word r.known (keeper name 3) second_listed refl Vary (r.known.carried.first.flops (keeper name 3) second_listed)
 
     input : (t : ℕ) → t < 3 → r.row t 1 ≡ start_state parts (selected_setup name).table t (entry_of (Public false ∷ Public true ∷ []) t)
     input t below = (r.known.carried.given t below).inputs select_plan (Contains-here select_plan [])
@@ -255,16 +278,23 @@ selected_reach name reach r = record {
     still t below b apart = (r.still t below).leaves b (λ h. apart (selector_bit name b h))
 
     shown : (t : ℕ) → t < 3 → (b : ℕ) → 4 ≢ b → ((s : ℕ) → s < 3 → r.row s b ≡ Vary) → r.calm t b ≡ Vary
-    shown t below b apart unknown = still t below b apart ∙ both_of (r.row (before t) b) (r.row t b) Vary Vary (unknown (before t) (before_below t 3 below)) (unknown t below)
+    shown t below b apart unknown =
+        still t below b apart
+        ∙ both_of (r.row (before t) b) (r.row t b) Vary Vary (unknown (before t) (before_below t 3 below)) (unknown t below)
 
     still_zero : r.calm 0 1 ≡ Zero
-    still_zero = still 0 (omega arith) 1 (λ e. omega arith) ∙ both_of (r.row 0 1) (r.row 0 1) Zero Zero (input 0 (omega arith)) (input 0 (omega arith))
+    still_zero =
+        still 0 (omega arith) 1 (λ e. omega arith)
+        ∙ both_of (r.row 0 1) (r.row 0 1) Zero Zero (input 0 (omega arith)) (input 0 (omega arith))
 
     changing : r.calm 1 1 ≡ Vary
-    changing = still 1 (omega arith) 1 (λ e. omega arith) ∙ both_of (r.row 0 1) (r.row 1 1) Zero One (input 0 (omega arith)) (input 1 (omega arith))
+    changing =
+        still 1 (omega arith) 1 (λ e. omega arith)
+        ∙ both_of (r.row 0 1) (r.row 1 1) Zero One (input 0 (omega arith)) (input 1 (omega arith))
 
     still_one : r.calm 2 1 ≡ One
-    still_one = still 2 (omega arith) 1 (λ e. omega arith) ∙ both_of (r.row 1 1) (r.row 2 1) One One (input 1 (omega arith)) (input 2 (omega arith))
+    still_one =
+        still 2 (omega arith) 1 (λ e. omega arith) ∙ both_of (r.row 1 1) (r.row 2 1) One One (input 1 (omega arith)) (input 2 (omega arith))
 
     selecting : (t : ℕ) → t < 3 → (select : Part) → r.calm t 1 ≡ select → IsSelecting select (r.calm t)
     selecting t below select is = record { select_is = is; first = a; second = b; out = c }
@@ -280,5 +310,6 @@ selected_reach name reach r = record {
             (subst (λ ps. IsForced Mux ps (r.calm t 4)) (let p : ◌≡◌ {A = List Part} (r.calm t 2 ∷ r.calm t 3 ∷ r.calm t 1 ∷ []) (Vary ∷ Vary ∷ select ∷ []) = let e = a in let f = b in let g = is in cc in p)
             ((r.still t below).forced.cells (selector name) (Contains-here (selector name) [])))
 
-    at_row : (t : ℕ) → t < 3 → (leaf : ℕ) (listed : List ℕ) → Reaches (selected_shares name) (r.calm t) leaf 4 ↔ Contains listed leaf → Contains (reach t 4) leaf ↔ Contains listed leaf
+    at_row : (t : ℕ) → t < 3 → (leaf : ℕ) (listed : List ℕ) → Reaches (selected_shares name) (r.calm t) leaf 4 ↔ Contains listed leaf
+        → Contains (reach t 4) leaf ↔ Contains listed leaf
     at_row t below leaf listed e = let row = (r.reached t below 4 (omega arith)).1 leaf in ((λ h. e.0 (row.0 h)), (λ h. row.1 (e.1 h)))

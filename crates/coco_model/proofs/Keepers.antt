@@ -12,7 +12,8 @@ use Rattle.coco_model.specs.Calm.{both}
 
 -- a flop that takes its own value is known as it was in cycle 0
 pub kept_known : (flat : Flat) (setup : Setup) (cycles : ℕ) (row : ℕ → Row) (word : ℕ → ℕ → Row) → IsKnown flat setup cycles row word
-    → (f : FlatFlop) → Contains flat.flops f → f.next ≡ Bit f.output → (p : Part) → row 0 f.output ≡ p → (t : ℕ) → t < cycles → row t f.output ≡ p
+    → (f : FlatFlop) → Contains flat.flops f → f.next ≡ Bit f.output → (p : Part) → row 0 f.output ≡ p → (t : ℕ) → t < cycles
+    → row t f.output ≡ p
 kept_known flat setup cycles row word known f listed own p start zero below = start
 kept_known flat setup cycles row word known f listed own p start (suc t) below =
     (known.carried.next t below).flops f listed ∙ ap (wire_part (row t)) own

@@ -1,6 +1,6 @@
 pub mod Basics
 pub mod Walks
-mod Keepers
+pub mod Keepers
 mod Circuits
 mod Pulses
 mod Unshared

@@ -106,20 +106,26 @@ xor_bit : (name : Text) → IsCellBit (pulsing_gate name) 2
 xor_bit name = any_from_member (λ (c : FlatCell). c.output ≡ 2) (pulsing_gate name).cells (the_xor name) (xor_listed name) refl
 
 -- where the input keeps still at 0, nothing is reached
-pub reached_none : (name : Text) (calm : Row) → IsForcedRow (pulsing_gate name) calm → calm 1 ≡ Zero → calm 3 ≡ Vary → (leaf : ℕ) → Reaches (pulsing_gate name) calm leaf 4 ↔ Contains [] leaf
+pub reached_none : (name : Text) (calm : Row) → IsForcedRow (pulsing_gate name) calm → calm 1 ≡ Zero → calm 3 ≡ Vary → (leaf : ℕ)
+    → Reaches (pulsing_gate name) calm leaf 4 ↔ Contains [] leaf
 reached_none name calm forced input share leaf = (to, λ h. absurd (Contains-none leaf h))
   where
     middle : calm 2 ≡ Zero
-    middle = xor_zero (calm 2) (subst (λ ps. IsForced Xor ps (calm 2)) (let e = input in let p : ◌≡◌ {A = List Part} (calm 1 ∷ calm 1 ∷ []) (Zero ∷ Zero ∷ []) = cc in p) (forced.cells (the_xor name) (xor_listed name)))
+    middle =
+        xor_zero (calm 2)
+        (subst (λ ps. IsForced Xor ps (calm 2)) (let e = input in let p : ◌≡◌ {A = List Part} (calm 1 ∷ calm 1 ∷ []) (Zero ∷ Zero ∷ []) = cc in p) (forced.cells (the_xor name) (xor_listed name)))
 
     out : calm 4 ≡ Zero
-    out = and_zero (calm 4) (subst (λ ps. IsForced And ps (calm 4)) (let e = middle in let f = share in let p : ◌≡◌ {A = List Part} (calm 3 ∷ calm 2 ∷ []) (Vary ∷ Zero ∷ []) = cc in p) (forced.cells (the_and name) (and_listed name)))
+    out =
+        and_zero (calm 4)
+        (subst (λ ps. IsForced And ps (calm 4)) (let e = middle in let f = share in let p : ◌≡◌ {A = List Part} (calm 3 ∷ calm 2 ∷ []) (Vary ∷ Zero ∷ []) = cc in p) (forced.cells (the_and name) (and_listed name)))
 
     to : Reaches (pulsing_gate name) calm leaf 4 → Contains [] leaf
     to walk = absurd (let s = step_from_cell (pulsing_gate name) calm leaf 4 (and_bit name) walk in let e = out in let f = s.varies in cc)
 
 -- where the input changes, so that the exclusive or may pulse, both the share and the input are reached
-pub reached_pulse : (name : Text) (calm : Row) → IsForcedRow (pulsing_gate name) calm → calm 1 ≡ Vary → calm 3 ≡ Vary → (leaf : ℕ) → Reaches (pulsing_gate name) calm leaf 4 ↔ Contains (1 ∷ 3 ∷ []) leaf
+pub reached_pulse : (name : Text) (calm : Row) → IsForcedRow (pulsing_gate name) calm → calm 1 ≡ Vary → calm 3 ≡ Vary → (leaf : ℕ)
+    → Reaches (pulsing_gate name) calm leaf 4 ↔ Contains (1 ∷ 3 ∷ []) leaf
 reached_pulse name calm forced input share leaf = (to, from)
   where
     two_inputs : ◌≡◌ {A = List Part} (calm 1 ∷ calm 1 ∷ []) (Vary ∷ Vary ∷ [])
@@ -154,14 +160,18 @@ reached_pulse name calm forced input share leaf = (to, from)
         go : (the_and name ≡ s.cell) ⊎ (the_xor name ≡ s.cell) → 1 ≡ leaf
         go (inl e) = absurd (let f : ◌≡◌ {A = ℕ} 4 2 = ap (λ (c : FlatCell). c.output) e ∙ s.drives in omega arith)
         go (inr e) =
-            let one : 1 ≡ s.from = behind_xor s.place s.from (subst (λ c. get_or (wires_of c) s.place (Const false) ≡ Bit s.from) (sym e) s.wired) in
-            let at : leaf ≡ s.from = same_leaf (pulsing_gate name) calm leaf s.from (no_cell name s.from (λ f. let g : ◌≡◌ {A = ℕ} 1 4 = one ∙ f in omega arith) (λ f. let g : ◌≡◌ {A = ℕ} 1 2 = one ∙ f in omega arith)) s.rest in
+            let one : 1 ≡ s.from =
+            behind_xor s.place s.from (subst (λ c. get_or (wires_of c) s.place (Const false) ≡ Bit s.from) (sym e) s.wired) in
+            let at : leaf ≡ s.from =
+            same_leaf (pulsing_gate name) calm leaf s.from (no_cell name s.from (λ f. let g : ◌≡◌ {A = ℕ} 1 4 = one ∙ f in omega arith) (λ f. let g : ◌≡◌ {A = ℕ} 1 2 = one ∙ f in omega arith)) s.rest in
             one ∙ sym at
 
-    behind_and : (place from : ℕ) → get_or (Bit 3 ∷ Bit 2 ∷ []) place (Const false) ≡ Bit from → Reaches (pulsing_gate name) calm leaf from → Contains (1 ∷ 3 ∷ []) leaf
+    behind_and : (place from : ℕ) → get_or (Bit 3 ∷ Bit 2 ∷ []) place (Const false) ≡ Bit from → Reaches (pulsing_gate name) calm leaf from
+        → Contains (1 ∷ 3 ∷ []) leaf
     behind_and zero from e walk =
         let three : 3 ≡ from = cc in
-        let at : leaf ≡ from = same_leaf (pulsing_gate name) calm leaf from (no_cell name from (λ f. let g : ◌≡◌ {A = ℕ} 3 4 = three ∙ f in omega arith) (λ f. let g : ◌≡◌ {A = ℕ} 3 2 = three ∙ f in omega arith)) walk in
+        let at : leaf ≡ from =
+        same_leaf (pulsing_gate name) calm leaf from (no_cell name from (λ f. let g : ◌≡◌ {A = ℕ} 3 4 = three ∙ f in omega arith) (λ f. let g : ◌≡◌ {A = ℕ} 3 2 = three ∙ f in omega arith)) walk in
         subst (Contains {X = ℕ} (1 ∷ 3 ∷ [])) (three ∙ sym at) has_share
     behind_and (suc zero) from e walk =
         let two : 2 ≡ from = cc in
@@ -188,11 +198,13 @@ reached_pulse name calm forced input share leaf = (to, from)
     input_live = record { varies = refl; inputs = false ∷ false ∷ []; allowed = (tt, (tt, tt)); changes = λ e. cc }
 
     to_share : Reaches (pulsing_gate name) calm 3 4
-    to_share = through 4 (the_and name) 0 3 (and_listed name) refl out (subst (λ ps. IsLiveInput And ps 0) (sym both_inputs) share_live) refl
+    to_share =
+        through 4 (the_and name) 0 3 (and_listed name) refl out (subst (λ ps. IsLiveInput And ps 0) (sym both_inputs) share_live) refl
         (here (no_cell name 3 (λ e. omega arith) (λ e. omega arith)) share)
 
     to_input : Reaches (pulsing_gate name) calm 1 4
-    to_input = through 4 (the_and name) 1 2 (and_listed name) refl out (subst (λ ps. IsLiveInput And ps 1) (sym both_inputs) pulse_live) refl
+    to_input =
+        through 4 (the_and name) 1 2 (and_listed name) refl out (subst (λ ps. IsLiveInput And ps 1) (sym both_inputs) pulse_live) refl
         (through 2 (the_xor name) 0 1 (xor_listed name) refl middle (subst (λ ps. IsLiveInput Xor ps 0) (sym two_inputs) input_live) refl
         (here (no_cell name 1 (λ e. omega arith) (λ e. omega arith)) input))
 
@@ -212,15 +224,20 @@ input_plan = record { bit = 1; values = Public false ∷ Public true ∷ [] }
 
 pub pulsing_reach : (name : Text) (reach : Reach) → IsReach (pulsing_gate name) (pulsing_setup name) 3 reach → IsPulsingReach reach
 pulsing_reach name reach r = record {
-  still = λ leaf. at_row 0 (omega arith) leaf [] (reached_none name (r.calm 0) (r.still 0 (omega arith)).forced at_zero (share 0 (omega arith)) leaf);
-  changing = λ leaf. at_row 1 (omega arith) leaf (1 ∷ 3 ∷ []) (reached_pulse name (r.calm 1) (r.still 1 (omega arith)).forced changes (share 1 (omega arith)) leaf);
+  still =
+      λ leaf. at_row 0 (omega arith) leaf [] (reached_none name (r.calm 0) (r.still 0 (omega arith)).forced at_zero (share 0 (omega arith)) leaf);
+  changing =
+      λ leaf. at_row 1 (omega arith) leaf (1 ∷ 3 ∷ [])
+      (reached_pulse name (r.calm 1) (r.still 1 (omega arith)).forced changes (share 1 (omega arith)) leaf);
 }
   where
     share_listed : Contains (pulsing_gate name).flops (keeper name 3)
     share_listed = Contains-here (keeper name 3) []
 
     unknown : (t : ℕ) → t < 3 → r.row t 3 ≡ Vary
-    unknown = kept_known (pulsing_gate name) (pulsing_setup name) 3 r.row r.word r.known (keeper name 3) share_listed refl Vary (r.known.carried.first.flops (keeper name 3) share_listed)
+    unknown =
+        kept_known (pulsing_gate name)
+        (pulsing_setup name) 3 r.row r.word r.known (keeper name 3) share_listed refl Vary (r.known.carried.first.flops (keeper name 3) share_listed)
 
     input : (t : ℕ) → t < 3 → r.row t 1 ≡ start_state parts (pulsing_setup name).table t (entry_of (Public false ∷ Public true ∷ []) t)
     input t below = (r.known.carried.given t below).inputs input_plan (Contains-here input_plan [])
@@ -233,10 +250,15 @@ pulsing_reach name reach r = record {
         ∙ both_of (r.row (before t) 3) (r.row t 3) Vary Vary (unknown (before t) (before_below t 3 below)) (unknown t below)
 
     at_zero : r.calm 0 1 ≡ Zero
-    at_zero = calm_leaf 0 (omega arith) 1 (λ e. omega arith) (λ e. omega arith) ∙ both_of (r.row 0 1) (r.row 0 1) Zero Zero (input 0 (omega arith)) (input 0 (omega arith))
+    at_zero =
+        calm_leaf 0 (omega arith) 1 (λ e. omega arith) (λ e. omega arith)
+        ∙ both_of (r.row 0 1) (r.row 0 1) Zero Zero (input 0 (omega arith)) (input 0 (omega arith))
 
     changes : r.calm 1 1 ≡ Vary
-    changes = calm_leaf 1 (omega arith) 1 (λ e. omega arith) (λ e. omega arith) ∙ both_of (r.row 0 1) (r.row 1 1) Zero One (input 0 (omega arith)) (input 1 (omega arith))
+    changes =
+        calm_leaf 1 (omega arith) 1 (λ e. omega arith) (λ e. omega arith)
+        ∙ both_of (r.row 0 1) (r.row 1 1) Zero One (input 0 (omega arith)) (input 1 (omega arith))
 
-    at_row : (t : ℕ) → t < 3 → (leaf : ℕ) (listed : List ℕ) → Reaches (pulsing_gate name) (r.calm t) leaf 4 ↔ Contains listed leaf → Contains (reach t 4) leaf ↔ Contains listed leaf
+    at_row : (t : ℕ) → t < 3 → (leaf : ℕ) (listed : List ℕ) → Reaches (pulsing_gate name) (r.calm t) leaf 4 ↔ Contains listed leaf
+        → Contains (reach t 4) leaf ↔ Contains listed leaf
     at_row t below leaf listed e = let row = (r.reached t below 4 (omega arith)).1 leaf in ((λ h. e.0 (row.0 h)), (λ h. row.1 (e.1 h)))

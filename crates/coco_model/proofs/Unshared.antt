@@ -34,7 +34,8 @@ at_register register other zero = other
 at_register register other (suc zero) = register
 at_register register other (suc (suc b)) = other
 
-is_carried : {X : Type 0} (states : States X) (v : ℕ → ℕ → Bool) (register other : X) (name : Text) → register ≡ states.label 0 → other ≡ states.constant false
+is_carried : {X : Type 0} (states : States X) (v : ℕ → ℕ → Bool) (register other : X) (name : Text) → register ≡ states.label 0
+    → other ≡ states.constant false
     → IsCarried states (one_register name) (unshared_setup name) 1 v (λ t. at_register register other) (λ t address k. other)
 is_carried states v register other name named plain = record {
   given = λ t below. record {
@@ -53,7 +54,8 @@ is_carried states v register other name named plain = record {
   where
     undriven : (b : ℕ) → IsUndriven (one_register name) b → at_register register other b ≡ states.constant false
     undriven zero u = plain
-    undriven (suc zero) u = absurd (u.no_flop (any_from_member (λ (f : FlatFlop). f.output ≡ 1) (one_register name).flops (keeper name 1) (Contains-here (keeper name 1) []) refl))
+    undriven (suc zero) u =
+        absurd (u.no_flop (any_from_member (λ (f : FlatFlop). f.output ≡ 1) (one_register name).flops (keeper name 1) (Contains-here (keeper name 1) []) refl))
     undriven (suc (suc b)) u = plain
 
     clock : (b : ℕ) → Some 0 ≡ Some b → at_register register other b ≡ states.constant false
@@ -61,12 +63,15 @@ is_carried states v register other name named plain = record {
     clock (suc b) e = absurd cc
 
     flops : (f : FlatFlop) → Contains (one_register name).flops f
-        → at_register register other f.output ≡ start_state states (unshared_setup name).table 0 (get_or (unshared_setup name).starts f.output (Public false))
+        → at_register register other f.output
+        ≡ start_state states (unshared_setup name).table 0 (get_or (unshared_setup name).starts f.output (Public false))
     flops f h = go (Contains-cases (keeper name 1) f [] h)
       where
         go : (keeper name 1 ≡ f) ⊎ Contains [] f
-            → at_register register other f.output ≡ start_state states (unshared_setup name).table 0 (get_or (unshared_setup name).starts f.output (Public false))
-        go (inl e) = subst (λ (f : FlatFlop). at_register register other f.output ≡ start_state states (unshared_setup name).table 0 (get_or (unshared_setup name).starts f.output (Public false))) e named
+            → at_register register other f.output
+            ≡ start_state states (unshared_setup name).table 0 (get_or (unshared_setup name).starts f.output (Public false))
+        go (inl e) =
+            subst (λ (f : FlatFlop). at_register register other f.output ≡ start_state states (unshared_setup name).table 0 (get_or (unshared_setup name).starts f.output (Public false))) e named
         go (inr none) = absurd (Contains-none f none)
 
 abbrev row : Row
@@ -110,7 +115,8 @@ reached name (suc zero) below leaf = (to, from)
         go (inr none) = absurd (Contains-none leaf none)
 
     from : Reaches (one_register name) row leaf 1 → Contains (1 ∷ []) leaf
-    from walk = subst (Contains {X = ℕ} (1 ∷ [])) (sym (same_leaf (one_register name) row leaf 1 (no_cells name 1) walk)) (Contains-here 1 [])
+    from walk =
+        subst (Contains {X = ℕ} (1 ∷ [])) (sym (same_leaf (one_register name) row leaf 1 (no_cells name 1) walk)) (Contains-here 1 [])
 reached name (suc (suc b)) below leaf = absurd (omega arith)
 
 zero_apart : (l : ℕ) → nat_eq 0 (suc l) ≡ false
@@ -179,15 +185,19 @@ unshared_finding name = record {
       unknown = refl;
     })
 
-    no_mask : (l : ℕ) → set_of_pairs root set_of (the_probe ∷ []) l ≡ true → (shares : List ℕ) × Contains (secret_labels (unshared_setup name).table.secrets) shares × Contains shares l
+    no_mask : (l : ℕ) → set_of_pairs root set_of (the_probe ∷ []) l ≡ true
+        → (shares : List ℕ) × Contains (secret_labels (unshared_setup name).table.secrets) shares × Contains shares l
     no_mask zero e = (0 ∷ [], Contains-here (0 ∷ []) [], Contains-here 0 [])
     no_mask (suc l) e = absurd (let f : ◌≡◌ {A = Bool} (xor false false) true = subst (λ b. xor b false ≡ true) (zero_apart l) e in cc)
 
-    all_or_none : (shares : List ℕ) → Contains (secret_labels (unshared_setup name).table.secrets) shares → (a b : ℕ) → Contains shares a → Contains shares b
+    all_or_none : (shares : List ℕ) → Contains (secret_labels (unshared_setup name).table.secrets) shares → (a b : ℕ) → Contains shares a
+        → Contains shares b
         → set_of_pairs root set_of (the_probe ∷ []) a ≡ set_of_pairs root set_of (the_probe ∷ []) b
-    all_or_none shares h a b in_a in_b = ap (set_of_pairs root set_of (the_probe ∷ [])) (sym (one_label shares h a in_a) ∙ one_label shares h b in_b)
+    all_or_none shares h a b in_a in_b =
+        ap (set_of_pairs root set_of (the_probe ∷ [])) (sym (one_label shares h a in_a) ∙ one_label shares h b in_b)
       where
-        one_label : (shares : List ℕ) → Contains (secret_labels (unshared_setup name).table.secrets) shares → (l : ℕ) → Contains shares l → 0 ≡ l
+        one_label : (shares : List ℕ) → Contains (secret_labels (unshared_setup name).table.secrets) shares → (l : ℕ) → Contains shares l
+            → 0 ≡ l
         one_label shares h l i = go (Contains-cases (0 ∷ []) shares [] h)
           where
             last : (0 ≡ l) ⊎ Contains [] l → 0 ≡ l

@@ -29,7 +29,8 @@ pub record IsAtLeaf (flat : Flat) (calm : Row) (leaf bit : ℕ) : Type 0 where
   pub no_cell : IsCellBit flat leaf → ⊥
   pub varies : calm leaf ≡ Vary
 
-pub walk_cases : (flat : Flat) (calm : Row) (leaf bit : ℕ) → Reaches flat calm leaf bit → IsAtLeaf flat calm leaf bit ⊎ IsStep flat calm leaf bit
+pub walk_cases : (flat : Flat) (calm : Row) (leaf bit : ℕ) → Reaches flat calm leaf bit
+    → IsAtLeaf flat calm leaf bit ⊎ IsStep flat calm leaf bit
 walk_cases flat calm leaf bit (here none varies) = inl (record { same = refl; no_cell = none; varies = varies })
 walk_cases flat calm leaf bit (through b cell place from listed drives varies live wired rest) =
     inr (record { cell = cell; listed = listed; drives = drives; varies = varies; place = place; live = live; from = from; wired = wired; rest = rest })

@@ -16,7 +16,8 @@ both One Zero = Vary
 both One Vary = Vary
 both Vary q = Vary
 
--- what is calm between two cycles, old and now: a leaf that is known with one value in both, and a cell's output that calm inputs force
+-- what is calm between two cycles, old and now: a leaf that is known with one value in both, and a cell's output that
+-- calm inputs force
 pub record IsCalm (flat : Flat) (old now calm : Row) : Type 0 where
   pub leaves : (b : ℕ) → (IsCellBit flat b → ⊥) → calm b ≡ both (old b) (now b)
   pub forced : IsForcedRow flat calm

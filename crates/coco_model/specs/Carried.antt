@@ -1,4 +1,5 @@
--- How leaves and memory go from cycle to cycle: one rule, for their values, for what is known of them, and for their roots.
+-- How leaves and memory go from cycle to cycle: one rule, for their values, for what is known of them, and for their
+-- roots.
 use Rattle.std.specs.Prelude.{◌≡◌, ℕ, suc, ◌+◌, ◌-◌, ◌*◌, ◌/◌, ◌<◌, min, Bool, false, cond, not, ◌&&◌, nat_eq, List, [], ◌∷◌, ◌++◌, map, flat_map, length, get_or, slice_get, Contains, Option, Some, None, option_to_list}
 use Rattle.coco_base.specs.declared.netlist.Flat.{Flat}
 use Rattle.coco_base.specs.declared.netlist.FlatFlop.{FlatFlop}
@@ -33,7 +34,8 @@ entry_of values cycle = get_or values (min cycle (length values - 1)) (Public fa
 abbrev pub start_word : {X : Type 0} → States X → LabelTable → List WordPlan → ℕ → ℕ → X
 start_word states table [] address k = states.constant false
 start_word states table (w ∷ words) address k =
-    cond (nat_eq w.address address) (start_state states table 0 (get_or w.bits k (Public false))) (start_word states table words address k)
+    cond (nat_eq w.address address) (start_state states table 0 (get_or w.bits k (Public false)))
+    (start_word states table words address k)
 
 -- a wire that may be absent, as one that is 0
 abbrev pub wire_or_off : Option Wire → Wire
@@ -62,36 +64,45 @@ abbrev pub stores : Valuation → MemPlan → ℕ → ℕ → Bool
 stores v mem address k =
     is_write v mem && (nat_eq (word_address v mem) address && wire_value v (get_or mem.enables (k / 8) (Const false)))
 
--- the state of bit k of the word at an address after a cycle: that of the value's bit where a port stores it, else the old one
+-- the state of bit k of the word at an address after a cycle: that of the value's bit where a port stores it, else the
+-- old one
 abbrev pub stored_word : {X : Type 0} → States X → Valuation → (ℕ → X) → List MemPlan → ℕ → ℕ → X → X
 stored_word states v state [] address k old = old
 stored_word states v state (mem ∷ mems) address k old =
-    cond (stores v mem address k) (on_wire states.constant state (get_or mem.value k (Const false))) (stored_word states v state mems address k old)
+    cond (stores v mem address k) (on_wire states.constant state (get_or mem.value k (Const false)))
+    (stored_word states v state mems address k old)
 
 -- in every cycle: undriven bits and the clock are 0, and an input has its entry of the cycle
 pub record IsGiven {X : Type 0} (states : States X) (flat : Flat) (setup : Setup) (t : ℕ) (state : ℕ → X) : Type 0 where
   pub undriven : (b : ℕ) → IsUndriven flat b → state b ≡ states.constant false
   pub clock : (b : ℕ) → setup.clock ≡ Some b → state b ≡ states.constant false
-  pub inputs : (p : InputPlan) → Contains setup.inputs p → state p.bit ≡ start_state states setup.table t (entry_of p.values t)
+  pub inputs : (p : InputPlan) → Contains setup.inputs p
+      → state p.bit ≡ start_state states setup.table t (entry_of p.values t)
 
 -- in cycle 0: flops and memory words have their starts, and echoes and memory answers are 0
-pub record IsFirst {X : Type 0} (states : States X) (flat : Flat) (setup : Setup) (state : ℕ → X) (word : ℕ → ℕ → X) : Type 0 where
-  pub flops : (f : FlatFlop) → Contains flat.flops f → state f.output ≡ start_state states setup.table 0 (get_or setup.starts f.output (Public false))
+pub record IsFirst {X : Type 0} (states : States X) (flat : Flat) (setup : Setup) (state : ℕ → X)
+    (word : ℕ → ℕ → X) : Type 0 where
+  pub flops : (f : FlatFlop) → Contains flat.flops f
+      → state f.output ≡ start_state states setup.table 0 (get_or setup.starts f.output (Public false))
   pub echoes : (e : EchoPlan) → Contains setup.echoes e → state e.bit ≡ states.constant false
-  pub answers : (mem : MemPlan) → Contains setup.memories mem → (k b : ℕ) → slice_get mem.answer k ≡ Some b → state b ≡ states.constant false
+  pub answers : (mem : MemPlan) → Contains setup.memories mem → (k b : ℕ) → slice_get mem.answer k ≡ Some b
+      → state b ≡ states.constant false
   pub words : (address k : ℕ) → word address k ≡ start_word states setup.table setup.words address k
 
--- from a cycle to the next, where v tells what the memory ports do: a flop has what its next wire had, an echo what its source had,
--- an answer the word that was read or else what it had, and a word what was stored or else what it had
-pub record IsNext {X : Type 0} (states : States X) (flat : Flat) (setup : Setup) (v : Valuation) (old : ℕ → X) (old_word : ℕ → ℕ → X) (new : ℕ → X) (new_word : ℕ → ℕ → X) : Type 0 where
+-- from a cycle to the next, where v tells what the memory ports do: a flop has what its next wire had, an echo what its
+-- source had, an answer the word that was read or else what it had, and a word what was stored or else what it had
+pub record IsNext {X : Type 0} (states : States X) (flat : Flat) (setup : Setup) (v : Valuation) (old : ℕ → X)
+    (old_word : ℕ → ℕ → X) (new : ℕ → X) (new_word : ℕ → ℕ → X) : Type 0 where
   pub flops : (f : FlatFlop) → Contains flat.flops f → new f.output ≡ on_wire states.constant old f.next
   pub echoes : (e : EchoPlan) → Contains setup.echoes e → new e.bit ≡ on_wire states.constant old e.source
   pub answers : (mem : MemPlan) → Contains setup.memories mem → (k b : ℕ) → slice_get mem.answer k ≡ Some b
       → new b ≡ cond (is_read v mem) (old_word (word_address v mem) k) (old b)
-  pub words : (address k : ℕ) → new_word address k ≡ stored_word states v old setup.memories address k (old_word address k)
+  pub words : (address k : ℕ)
+      → new_word address k ≡ stored_word states v old setup.memories address k (old_word address k)
 
 -- the states of leaves and of memory words over the cycles of a run, by cycle and bit, and by cycle, address and place
-pub record IsCarried {X : Type 0} (states : States X) (flat : Flat) (setup : Setup) (cycles : ℕ) (v : ℕ → Valuation) (state : ℕ → ℕ → X) (word : ℕ → ℕ → ℕ → X) : Type 0 where
+pub record IsCarried {X : Type 0} (states : States X) (flat : Flat) (setup : Setup) (cycles : ℕ) (v : ℕ → Valuation)
+    (state : ℕ → ℕ → X) (word : ℕ → ℕ → ℕ → X) : Type 0 where
   pub given : (t : ℕ) → t < cycles → IsGiven states flat setup t (state t)
   pub first : IsFirst states flat setup (state 0) (word 0)
   pub next : (t : ℕ) → suc t < cycles → IsNext states flat setup (v t) (state t) (word t) (state (suc t)) (word (suc t))
@@ -99,7 +110,8 @@ pub record IsCarried {X : Type 0} (states : States X) (flat : Flat) (setup : Set
 -- the bits that the clock line, inputs, echoes and memory answers bind
 abbrev pub bound_bits : Setup → List ℕ
 bound_bits setup =
-    option_to_list setup.clock ++ map (λ (p : InputPlan). p.bit) setup.inputs ++ map (λ (e : EchoPlan). e.bit) setup.echoes ++ flat_map (λ (mem : MemPlan). mem.answer) setup.memories
+    option_to_list setup.clock ++ map (λ (p : InputPlan). p.bit) setup.inputs
+    ++ map (λ (e : EchoPlan). e.bit) setup.echoes ++ flat_map (λ (mem : MemPlan). mem.answer) setup.memories
 
 -- every input port bit is bound, once, and nothing else is
 pub record IsBound (flat : Flat) (setup : Setup) : Type 0 where

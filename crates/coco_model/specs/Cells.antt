@@ -10,7 +10,8 @@ abbrev pub xor : Bool → Bool → Bool
 xor true b = not b
 xor false b = b
 
--- the output of a gate for its inputs A, B, C, D, of a multiplexer A, B, S: the single-bit gate cells of the Yosys manual
+-- the output of a gate for its inputs A, B, C, D, of a multiplexer A, B, S: the single-bit gate cells of the Yosys
+-- manual
 abbrev pub gate_function : Kind → Bool → Bool → Bool → Bool → Bool
 gate_function Buf a b c d = a
 gate_function Not a b c d = not a
@@ -31,7 +32,8 @@ gate_function Oai4 a b c d = not ((a || b) && (c || d))
 
 -- the output for a list of input values; a place beyond the list is 0
 abbrev pub output_of : Kind → List Bool → Bool
-output_of kind inputs = gate_function kind (get_or inputs 0 false) (get_or inputs 1 false) (get_or inputs 2 false) (get_or inputs 3 false)
+output_of kind inputs =
+    gate_function kind (get_or inputs 0 false) (get_or inputs 1 false) (get_or inputs 2 false) (get_or inputs 3 false)
 
 -- how many inputs a kind has
 abbrev pub input_count : Kind → ℕ
@@ -106,7 +108,8 @@ abbrev pub allowed_inputs : List Part → List (List Bool)
 allowed_inputs [] = [] ∷ []
 allowed_inputs (Zero ∷ ps) = map (λ (xs : List Bool). false ∷ xs) (allowed_inputs ps)
 allowed_inputs (One ∷ ps) = map (λ (xs : List Bool). true ∷ xs) (allowed_inputs ps)
-allowed_inputs (Vary ∷ ps) = map (λ (xs : List Bool). false ∷ xs) (allowed_inputs ps) ++ map (λ (xs : List Bool). true ∷ xs) (allowed_inputs ps)
+allowed_inputs (Vary ∷ ps) =
+    map (λ (xs : List Bool). false ∷ xs) (allowed_inputs ps) ++ map (λ (xs : List Bool). true ∷ xs) (allowed_inputs ps)
 
 -- a number times -1 to the power of a bit
 abbrev pub signed : Bool → ℤ → ℤ
@@ -124,7 +127,8 @@ chosen_parity [] xs = false
 chosen_parity (s ∷ ss) [] = false
 chosen_parity (s ∷ ss) (x ∷ xs) = xor (s && x) (chosen_parity ss xs)
 
--- the signed sum (Walsh coefficient) of a gate at a subset of its inputs, where parts are those of its inputs alone: the sum,
--- over all values of the inputs that vary, of -1 to the power of the output plus the inputs in the subset
+-- the signed sum (Walsh coefficient) of a gate at a subset of its inputs, where parts are those of its inputs alone:
+-- the sum, over all values of the inputs that vary, of -1 to the power of the output plus the inputs in the subset
 abbrev pub signed_sum : Kind → List Part → Subset → ℤ
-signed_sum kind parts subset = sign_total (λ inputs. xor (output_of kind inputs) (chosen_parity subset inputs)) (allowed_inputs parts)
+signed_sum kind parts subset =
+    sign_total (λ inputs. xor (output_of kind inputs) (chosen_parity subset inputs)) (allowed_inputs parts)

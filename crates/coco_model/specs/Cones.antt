@@ -1,4 +1,5 @@
--- Cones: the labels that a root, a node or a probe can have in its sets; the weight of a run, and whether it is covered.
+-- Cones: the labels that a root, a node or a probe can have in its sets; the weight of a run, and whether it is
+-- covered.
 use Rattle.std.specs.Prelude.{◌≡◌, ℕ, suc, ◌+◌, ◌*◌, ◌<◌, false, List, [], ◌∷◌, length, get_or, Contains, ◌↔◌}
 use Rattle.std.specs.List.Sorted.{IsStrictlyIncreasing}
 use Rattle.coco_base.specs.declared.netlist.Flat.{Flat}
@@ -20,21 +21,23 @@ use Rattle.coco_model.specs.Roots.{Root}
 use Rattle.coco_model.specs.Roots.Root.{label, output}
 use Rattle.coco_model.specs.Findings.{Shows}
 
--- a label is in the cone of a root: the root is the label, or a cell's output and the label is in the cone of the root of an unknown
--- input that is live where the known inputs are fixed
+-- a label is in the cone of a root: the root is the label, or a cell's output and the label is in the cone of the root
+-- of an unknown input that is live where the known inputs are fixed
 pub data IsInRootCone (flat : Flat) (row : ℕ → Row) (root : ℕ → ℕ → Root) (l : ℕ) : Root → Type 0 where
   here : (r : Root) → r ≡ label l → IsInRootCone flat row root l r
   through : (r : Root) (t : ℕ) (cell : FlatCell) (place from : ℕ) → Contains flat.cells cell → r ≡ output t cell.output
       → IsLiveInput cell.kind (cell_parts (row t) cell) place → get_or (wires_of cell) place (Const false) ≡ Bit from
       → IsInRootCone flat row root l (root t from) → IsInRootCone flat row root l r
 
--- a label is in the cone of a node: the node is the label, a copy of one with the label in its cone, or a gate with a live operand of
--- which that holds
+-- a label is in the cone of a node: the node is the label, a copy of one with the label in its cone, or a gate with a
+-- live operand of which that holds
 pub data IsInCone (nodes : ℕ → Node) (l : ℕ) : ℕ → Type 0 where
   here : (i : ℕ) → nodes i ≡ Label l → IsInCone nodes l i
   copied : (i j : ℕ) → nodes i ≡ Copy j → IsInCone nodes l j → IsInCone nodes l i
-  through : (i : ℕ) (kind : Kind) (parts : List Part) (operands : List ℕ) (place : ℕ) → nodes i ≡ Gate kind parts operands
-      → IsLiveInput kind (input_places kind parts) place → IsInCone nodes l (get_or operands place 0) → IsInCone nodes l i
+  through : (i : ℕ) (kind : Kind) (parts : List Part) (operands : List ℕ) (place : ℕ)
+      → nodes i ≡ Gate kind parts operands
+      → IsLiveInput kind (input_places kind parts) place → IsInCone nodes l (get_or operands place 0)
+      → IsInCone nodes l i
 
 -- the cone of each node, as an ascending list
 pub record AreCones (nodes : List Node) (cones : ℕ → List ℕ) : Type 0 where
@@ -58,14 +61,17 @@ abbrev pub run_weight : ℕ → ℕ → ℕ → List Node → (ℕ → List ℕ)
 run_weight bits cycles order nodes cones = bits * cycles * (order + 1) + cone_weight cones 0 nodes
 
 -- a label is in the cone of a probe: in that of the root of a leaf in a cycle that the probe shows
-pub record IsInProbeCone (flat : Flat) (row : ℕ → Row) (reach : Reach) (root : ℕ → ℕ → Root) (probe : Probe) (l : ℕ) : Type 0 where
+pub record IsInProbeCone (flat : Flat) (row : ℕ → Row) (reach : Reach) (root : ℕ → ℕ → Root) (probe : Probe)
+    (l : ℕ) : Type 0 where
   pub leaf : ℕ
   pub cycle : ℕ
   pub shows : Shows reach probe leaf cycle
   pub member : IsInRootCone flat row root l (root cycle leaf)
 
 -- a run is covered: the cones of all its probes together hold all shares of some secret bit
-pub record IsCovered (flat : Flat) (setup : Setup) (cycles : ℕ) (row : ℕ → Row) (reach : Reach) (root : ℕ → ℕ → Root) : Type 0 where
+pub record IsCovered (flat : Flat) (setup : Setup) (cycles : ℕ) (row : ℕ → Row) (reach : Reach)
+    (root : ℕ → ℕ → Root) : Type 0 where
   pub shares : List ℕ
   pub secret : Contains (secret_labels setup.table.secrets) shares
-  pub each : (l : ℕ) → Contains shares l → (probe : Probe) × IsProbe flat setup cycles probe × IsInProbeCone flat row reach root probe l
+  pub each : (l : ℕ) → Contains shares l
+      → (probe : Probe) × IsProbe flat setup cycles probe × IsInProbeCone flat row reach root probe l

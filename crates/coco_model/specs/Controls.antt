@@ -12,11 +12,15 @@ use Rattle.coco_base.specs.declared.setup.Setup.{Setup}
 use Rattle.coco_model.specs.Carried.{wire_or_off, number_on}
 use Rattle.coco_model.specs.Known.{Row, part_of, wire_part, ones}
 
--- when a control has to be known: in every cycle, where a memory port's request is 1, or where its request and its write are 1
+-- when a control has to be known: in every cycle, where a memory port's request is 1, or where its request and its
+-- write are 1
 abbrev pub Applies : Setup → Row → When → Type 0
 Applies setup row Always = Unit {0}
-Applies setup row (Requested i) = (mem : MemPlan) × (slice_get setup.memories i ≡ Some mem) × (wire_part row mem.request ≡ One)
-Applies setup row (Written i) = (mem : MemPlan) × (slice_get setup.memories i ≡ Some mem) × (wire_part row mem.request ≡ One) × (wire_part row (wire_or_off mem.write) ≡ One)
+Applies setup row (Requested i) =
+    (mem : MemPlan) × (slice_get setup.memories i ≡ Some mem) × (wire_part row mem.request ≡ One)
+Applies setup row (Written i) =
+    (mem : MemPlan) × (slice_get setup.memories i ≡ Some mem) × (wire_part row mem.request ≡ One)
+    × (wire_part row (wire_or_off mem.write) ≡ One)
 
 -- in a cycle every control that applies is known
 pub record AreControlsKnown (setup : Setup) (row : Row) : Type 0 where

@@ -34,8 +34,11 @@ abbrev pub after_events : Flat → Valuation → Valuation → List Event → Va
 after_events flat new now [] = now
 after_events flat new now (e ∷ es) = after_events flat new (after_event flat new now e) es
 
--- numbers of cells, among them every cell, each after those whose outputs it reads; done has the outputs of those before
+-- numbers of cells, among them every cell, each after those whose outputs it reads; done has the outputs of those
+-- before
 abbrev pub IsCellOrder : Flat → List ℕ → List ℕ → Type 0
 IsCellOrder flat done [] = (b : ℕ) → IsCellBit flat b → Contains done b
 IsCellOrder flat done (i ∷ is) =
-    (c : FlatCell) × (slice_get flat.cells i ≡ Some c) × ((b : ℕ) → Contains (wires_of c) (Bit b) → IsCellBit flat b → Contains done b) × IsCellOrder flat (c.output ∷ done) is
+    (c : FlatCell) × (slice_get flat.cells i ≡ Some c)
+    × ((b : ℕ) → Contains (wires_of c) (Bit b) → IsCellBit flat b → Contains done b)
+    × IsCellOrder flat (c.output ∷ done) is

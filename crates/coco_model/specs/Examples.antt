@@ -22,7 +22,8 @@ use Rattle.coco_model.specs.Reach.{Reach}
 
 -- the signed sums of a gate at the subsets with the first numbers, so many
 abbrev pub signed_sums : Kind → List Part → ℕ → List ℤ
-signed_sums kind parts count = map (λ number. signed_sum kind parts (subset_of_number (length parts) number)) (range_with_len 0 count)
+signed_sums kind parts count =
+    map (λ number. signed_sum kind parts (subset_of_number (length parts) number)) (range_with_len 0 count)
 
 abbrev pub input_port : Text → ℕ → FlatPort
 input_port name bit = record { name = name; input = true; wires = Bit bit ∷ [] }
@@ -44,7 +45,8 @@ two_input_xor name = record {
   nets = [];
 }
 
--- y = MUX(q0, q1, s): the clock is bit 0, the input s bit 1, the flops q0 and q1 that keep their values bits 2 and 3, and y bit 4
+-- y = MUX(q0, q1, s): the clock is bit 0, the input s bit 1, the flops q0 and q1 that keep their values bits 2 and 3,
+-- and y bit 4
 abbrev pub selected_shares : Text → Flat
 selected_shares name = record {
   bits = 5;
@@ -54,19 +56,24 @@ selected_shares name = record {
   nets = [];
 }
 
--- y = AND(q0, z) with z = XOR(s, s): the clock is bit 0, the input s bit 1, z bit 2, the flop q0 that keeps its value bit 3, and y bit 4
+-- y = AND(q0, z) with z = XOR(s, s): the clock is bit 0, the input s bit 1, z bit 2, the flop q0 that keeps its value
+-- bit 3, and y bit 4
 abbrev pub pulsing_gate : Text → Flat
 pulsing_gate name = record {
   bits = 5;
   ports = input_port name 0 ∷ input_port name 1 ∷ [];
-  cells = gate name And (Bit 3 ∷ Bit 2 ∷ Const false ∷ Const false ∷ []) 4 ∷ gate name Xor (Bit 1 ∷ Bit 1 ∷ Const false ∷ Const false ∷ []) 2 ∷ [];
+  cells =
+      gate name And (Bit 3 ∷ Bit 2 ∷ Const false ∷ Const false ∷ []) 4
+      ∷ gate name Xor (Bit 1 ∷ Bit 1 ∷ Const false ∷ Const false ∷ []) 2
+      ∷ [];
   flops = keeper name 3 ∷ [];
   nets = [];
 }
 
 -- one flop that keeps its value, bit 1, over the clock, bit 0
 abbrev pub one_register : Text → Flat
-one_register name = record { bits = 2; ports = input_port name 0 ∷ []; cells = []; flops = keeper name 1 ∷ []; nets = [] }
+one_register name =
+    record { bits = 2; ports = input_port name 0 ∷ []; cells = []; flops = keeper name 1 ∷ []; nets = [] }
 
 -- the labels of one secret of one bit in so many shares
 abbrev pub one_secret : Text → ℕ → LabelTable

@@ -27,16 +27,19 @@ chosen_set set_of (s ∷ ss) (w ∷ ws) l = xor (s && set_of w l) (chosen_set se
 chosen_set set_of [] ws l = false
 chosen_set set_of (s ∷ ss) [] l = false
 
--- a cell's output has the symmetric difference of its inputs' sets at one subset of its unknown inputs whose signed sum is not 0
-pub record IsChosen (set_of : Root → Labels) (row : Row) (root : ℕ → Root) (c : FlatCell) (chosen : Labels) : Type 0 where
+-- a cell's output has the symmetric difference of its inputs' sets at one subset of its unknown inputs whose signed sum
+-- is not 0
+pub record IsChosen (set_of : Root → Labels) (row : Row) (root : ℕ → Root) (c : FlatCell)
+    (chosen : Labels) : Type 0 where
   pub subset : Subset
   pub unknown : IsSubsetOf subset (cell_parts row c)
   pub signed : signed_sum c.kind (cell_parts row c) subset ≢ pos 0
   pub set : (l : ℕ) → chosen l ≡ chosen_set (λ w. set_of (wire_root root w)) subset (wires_of c) l
 
--- a selection: a set of labels for each root, empty for nothing, the label itself for a label, and chosen for each cell output that is
--- a root; after the correlation sets of the tool Coco (Bloem et al. 2018; Gigerl et al. 2021)
-pub record IsSelection (flat : Flat) (cycles : ℕ) (row : ℕ → Row) (root : ℕ → ℕ → Root) (set_of : Root → Labels) : Type 0 where
+-- a selection: a set of labels for each root, empty for nothing, the label itself for a label, and chosen for each cell
+-- output that is a root; after the correlation sets of the tool Coco (Bloem et al. 2018; Gigerl et al. 2021)
+pub record IsSelection (flat : Flat) (cycles : ℕ) (row : ℕ → Row) (root : ℕ → ℕ → Root)
+    (set_of : Root → Labels) : Type 0 where
   pub empty : (l : ℕ) → set_of nothing l ≡ false
   pub single : (l m : ℕ) → set_of (label l) m ≡ nat_eq l m
   pub outputs : (t : ℕ) → t < cycles → (c : FlatCell) → Contains flat.cells c → root t c.output ≡ output t c.output
@@ -44,8 +47,10 @@ pub record IsSelection (flat : Flat) (cycles : ℕ) (row : ℕ → Row) (root : 
 
 -- a set of labels with no mask and no fresh label, and with all shares or none of each secret bit
 pub record IsWhole (table : LabelTable) (labels : Labels) : Type 0 where
-  pub no_mask : (l : ℕ) → labels l ≡ true → (shares : List ℕ) × Contains (secret_labels table.secrets) shares × Contains shares l
-  pub all_or_none : (shares : List ℕ) → Contains (secret_labels table.secrets) shares → (a b : ℕ) → Contains shares a → Contains shares b → labels a ≡ labels b
+  pub no_mask : (l : ℕ) → labels l ≡ true
+      → (shares : List ℕ) × Contains (secret_labels table.secrets) shares × Contains shares l
+  pub all_or_none : (shares : List ℕ) → Contains (secret_labels table.secrets) shares → (a b : ℕ) → Contains shares a
+      → Contains shares b → labels a ≡ labels b
 
 -- a probe shows a leaf in a cycle: it reaches the leaf, and the cycle is the probe's own or the one before
 pub record Shows (reach : Reach) (probe : Probe) (leaf cycle : ℕ) : Type 0 where
@@ -63,9 +68,10 @@ pub record IsSeen (row : ℕ → Row) (reach : Reach) (probes : List Probe) (pai
 abbrev pub set_of_pairs : (ℕ → ℕ → Root) → (Root → Labels) → List Probe → Labels
 set_of_pairs root set_of pairs l = parity (map (λ (u : Probe). set_of (root u.cycle u.bit) l) pairs)
 
--- a finding of order d: at least one and at most d different probes, different pairs of leaf and cycle that they show and that are
--- unknown, and a selection, by which the pairs' set is whole and not empty
-pub record IsFinding (flat : Flat) (setup : Setup) (cycles d : ℕ) (row : ℕ → Row) (reach : Reach) (root : ℕ → ℕ → Root) (probes pairs : List Probe) (set_of : Root → Labels) : Type 0 where
+-- a finding of order d: at least one and at most d different probes, different pairs of leaf and cycle that they show
+-- and that are unknown, and a selection, by which the pairs' set is whole and not empty
+pub record IsFinding (flat : Flat) (setup : Setup) (cycles d : ℕ) (row : ℕ → Row) (reach : Reach) (root : ℕ → ℕ → Root)
+    (probes pairs : List Probe) (set_of : Root → Labels) : Type 0 where
   pub some : 0 < length probes
   pub most : length probes ≤ d
   pub each : (p : Probe) → Contains probes p → IsProbe flat setup cycles p

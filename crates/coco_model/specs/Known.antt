@@ -42,7 +42,8 @@ ones row b = is_one (row b)
 abbrev pub parts : States Part
 parts = record { constant = part_of; label = λ _. Vary }
 
--- what is known of every bit in each cycle, and of every bit of every memory word; the memory ports do what is known of them
+-- what is known of every bit in each cycle, and of every bit of every memory word; the memory ports do what is known of
+-- them
 pub record IsKnown (flat : Flat) (setup : Setup) (cycles : ℕ) (row : ℕ → Row) (word : ℕ → ℕ → Row) : Type 0 where
   pub forced : (t : ℕ) → t < cycles → IsForcedRow flat (row t)
   pub carried : IsCarried parts flat setup cycles (λ t. ones (row t)) row word

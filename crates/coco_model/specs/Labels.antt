@@ -60,16 +60,24 @@ same_bits (x ∷ xs) (y ∷ ys) = not (xor x y) && same_bits xs ys
 
 -- the choices whose secrets have these values; shares, masks and fresh masks are else free
 abbrev pub choices_with : LabelTable → ℕ → List Bool → List Choice
-choices_with table cycles secrets = filter (λ (c : Choice). same_bits (secret_bits table c) secrets) (choices (label_count table cycles))
+choices_with table cycles secrets =
+    filter (λ (c : Choice). same_bits (secret_bits table c) secrets) (choices (label_count table cycles))
 
--- a table that numbers labels: each label below the declared number is of one share or mask bit, and each label of a cycle is of
--- one bit of a fresh mask
+-- the labels of all shares and masks, and those of the fresh masks of a cycle
+abbrev pub declared_labels : LabelTable → List ℕ
+declared_labels table = flat_map (λ (ls : List ℕ). ls) (secret_labels table.secrets) ++ flat_map mask_labels table.masks
+
+abbrev pub fresh_labels : LabelTable → List ℕ
+fresh_labels table = flat_map mask_labels table.fresh
+
+-- a table that numbers labels: each label below the declared number is of one share or mask bit, and each label of a
+-- cycle is of one bit of a fresh mask
 pub record IsLabelTable (table : LabelTable) : Type 0 where
   pub wide : (s : SecretPlan) → Contains table.secrets s → 0 < s.width
   pub shared : (s : SecretPlan) → Contains table.secrets s → 0 < s.shares
   pub mask_wide : (m : MaskPlan) → Contains table.masks m → 0 < m.width
   pub fresh_wide : (m : MaskPlan) → Contains table.fresh m → 0 < m.width
-  pub once : HasNoRepeat (flat_map (λ (ls : List ℕ). ls) (secret_labels table.secrets) ++ flat_map mask_labels table.masks)
-  pub each : (l : ℕ) → Contains (flat_map (λ (ls : List ℕ). ls) (secret_labels table.secrets) ++ flat_map mask_labels table.masks) l ↔ (l < table.declared)
-  pub fresh_once : HasNoRepeat (flat_map mask_labels table.fresh)
-  pub fresh_each : (l : ℕ) → Contains (flat_map mask_labels table.fresh) l ↔ (l < table.per_cycle)
+  pub once : HasNoRepeat (declared_labels table)
+  pub each : (l : ℕ) → Contains (declared_labels table) l ↔ (l < table.declared)
+  pub fresh_once : HasNoRepeat (fresh_labels table)
+  pub fresh_each : (l : ℕ) → Contains (fresh_labels table) l ↔ (l < table.per_cycle)

@@ -75,7 +75,8 @@ HasNoRepeat (x ∷ xs) = (Contains xs x → ⊥) × HasNoRepeat xs
 
 -- the driven bits, driver by driver: the places of input ports, then cells, then flops
 abbrev pub driven_bits : Flat → List ℕ
-driven_bits flat = input_bits flat ++ map (λ (c : FlatCell). c.output) flat.cells ++ map (λ (f : FlatFlop). f.output) flat.flops
+driven_bits flat =
+    input_bits flat ++ map (λ (c : FlatCell). c.output) flat.cells ++ map (λ (f : FlatFlop). f.output) flat.flops
 
 -- no bit has two drivers
 pub record HasOneDriver (flat : Flat) : Type 0 where

@@ -29,9 +29,10 @@ abbrev pub wire_operand : Row → (ℕ → ℕ) → Wire → ℕ
 wire_operand row index (Const b) = 0
 wire_operand row index (Bit n) = part_operand (row n) (index n)
 
--- a gate node stands for a cell: it has the cell's kind, and at its inputs what is known of the cell's inputs and their nodes; another
--- place is Zero with operand 0
-pub record IsGateOf (index : ℕ → ℕ) (row : Row) (c : FlatCell) (kind : Kind) (gate_parts : List Part) (gate_operands : List ℕ) : Type 0 where
+-- a gate node stands for a cell: it has the cell's kind, and at its inputs what is known of the cell's inputs and their
+-- nodes; another place is Zero with operand 0
+pub record IsGateOf (index : ℕ → ℕ) (row : Row) (c : FlatCell) (kind : Kind) (gate_parts : List Part)
+    (gate_operands : List ℕ) : Type 0 where
   pub kinds : kind ≡ c.kind
   pub parts : input_places kind gate_parts ≡ cell_parts row c
   pub operands : input_places kind gate_operands ≡ map (wire_operand row index) (wires_of c)
@@ -45,14 +46,16 @@ IsOwnGate index row c (Label l) = ⊥
 IsOwnGate index row c (Copy j) = ⊥
 IsOwnGate index row c (Gate kind parts operands) = IsGateOf index row c kind parts operands
 
--- the node of a bit in a cycle, where index gives the numbers of nodes: by the bit's root it is nothing, a label, a copy of an earlier
--- cycle's node with the same root, or the gate of the cell that drives the bit
+-- the node of a bit in a cycle, where index gives the numbers of nodes: by the bit's root it is nothing, a label, a
+-- copy of an earlier cycle's node with the same root, or the gate of the cell that drives the bit
 abbrev pub IsNodeOf : Flat → (ℕ → ℕ → ℕ) → (ℕ → Row) → (ℕ → ℕ → Root) → ℕ → ℕ → Node → Type 0
 IsNodeOf flat index row root t b Nothing = root t b ≡ nothing
 IsNodeOf flat index row root t b (Label l) = root t b ≡ label l
-IsNodeOf flat index row root t b (Copy j) = (s : ℕ) × (c : ℕ) × (s < t) × (c < flat.bits) × (j ≡ index s c) × (root t b ≢ nothing) × (root t b ≡ root s c)
+IsNodeOf flat index row root t b (Copy j) =
+    (s : ℕ) × (c : ℕ) × (s < t) × (c < flat.bits) × (j ≡ index s c) × (root t b ≢ nothing) × (root t b ≡ root s c)
 IsNodeOf flat index row root t b (Gate kind parts operands) =
-    (c : FlatCell) × Contains flat.cells c × (c.output ≡ b) × (root t b ≡ output t b) × IsGateOf (index t) (row t) c kind parts operands
+    (c : FlatCell) × Contains flat.cells c × (c.output ≡ b) × (root t b ≡ output t b)
+    × IsGateOf (index t) (row t) c kind parts operands
 
 -- nodes as states: a constant is nothing, and a label is its own
 abbrev pub starting_nodes : States Node
@@ -64,21 +67,26 @@ copy_of Zero i = Nothing
 copy_of One i = Nothing
 copy_of Vary i = Copy i
 
--- the node of a cell's output: nothing where it is known, a copy of the node in the cycle before where the cell keeps its root, and else
--- the cell's gate
-pub record HasCellNode (index : ℕ → ℕ → ℕ) (row : ℕ → Row) (root : ℕ → ℕ → Root) (t : ℕ) (c : FlatCell) (node : Node) : Type 0 where
+-- the node of a cell's output: nothing where it is known, a copy of the node in the cycle before where the cell keeps
+-- its root, and else the cell's gate
+pub record HasCellNode (index : ℕ → ℕ → ℕ) (row : ℕ → Row) (root : ℕ → ℕ → Root) (t : ℕ) (c : FlatCell)
+    (node : Node) : Type 0 where
   pub known : row t c.output ≢ Vary → node ≡ Nothing
   pub kept : row t c.output ≡ Vary → IsKept row root t c → node ≡ Copy (index (before t) c.output)
   pub own : row t c.output ≡ Vary → (IsKept row root t c → ⊥) → IsOwnGate (index t) (row t) c node
 
--- the nodes of a run, by cycle and bit, where word tells those of memory words: a start is nothing or a label, a later leaf a copy of its
--- source's node, where the source of a word's bit that was stored is the bit that was stored, and else as above
-pub record IsUnrolled (flat : Flat) (setup : Setup) (cycles : ℕ) (index : ℕ → ℕ → ℕ) (row : ℕ → Row) (root : ℕ → ℕ → Root) (node : ℕ → ℕ → Node) (word : ℕ → ℕ → ℕ → Node) : Type 0 where
-  pub cells : (t : ℕ) → t < cycles → (c : FlatCell) → Contains flat.cells c → HasCellNode index row root t c (node t c.output)
+-- the nodes of a run, by cycle and bit, where word tells those of memory words: a start is nothing or a label, a later
+-- leaf a copy of its source's node, where the source of a word's bit that was stored is the bit that was stored, and
+-- else as above
+pub record IsUnrolled (flat : Flat) (setup : Setup) (cycles : ℕ) (index : ℕ → ℕ → ℕ) (row : ℕ → Row)
+    (root : ℕ → ℕ → Root) (node : ℕ → ℕ → Node) (word : ℕ → ℕ → ℕ → Node) : Type 0 where
+  pub cells : (t : ℕ) → t < cycles → (c : FlatCell) → Contains flat.cells c
+      → HasCellNode index row root t c (node t c.output)
   pub given : (t : ℕ) → t < cycles → IsGiven starting_nodes flat setup t (node t)
   pub first : IsFirst starting_nodes flat setup (node 0) (word 0)
   pub next : (t : ℕ) → suc t < cycles
-      → IsNext starting_nodes flat setup (ones (row t)) (λ b. copy_of (row t b) (index t b)) (word t) (node (suc t)) (word (suc t))
+      → IsNext starting_nodes flat setup (ones (row t)) (λ b. copy_of (row t b) (index t b)) (word t) (node (suc t))
+      (word (suc t))
 
 -- a node leads to its origin by copies
 pub data LeadsTo (nodes : ℕ → Node) (origin : ℕ) : ℕ → Type 0 where
@@ -86,7 +94,8 @@ pub data LeadsTo (nodes : ℕ → Node) (origin : ℕ) : ℕ → Type 0 where
   goes : (i j : ℕ) → nodes i ≡ Copy j → LeadsTo nodes origin j → LeadsTo nodes origin i
 
 -- every bit in every cycle has its node, and no two share one
-pub record AreNodesOf (flat : Flat) (cycles : ℕ) (index : ℕ → ℕ → ℕ) (row : ℕ → Row) (root : ℕ → ℕ → Root) (nodes : ℕ → Node) : Type 0 where
+pub record AreNodesOf (flat : Flat) (cycles : ℕ) (index : ℕ → ℕ → ℕ) (row : ℕ → Row) (root : ℕ → ℕ → Root)
+    (nodes : ℕ → Node) : Type 0 where
   pub each : (t b : ℕ) → t < cycles → b < flat.bits → IsNodeOf flat index row root t b (nodes (index t b))
   pub apart : (t b s c : ℕ) → b < flat.bits → c < flat.bits → index t b ≡ index s c → (t ≡ s) × (b ≡ c)
 
@@ -112,7 +121,8 @@ IsNodeSet sets i (Label k) = (l : ℕ) → sets i l ≡ nat_eq k l
 IsNodeSet sets i (Copy j) = (l : ℕ) → sets i l ≡ sets j l
 IsNodeSet sets i (Gate kind parts operands) = IsGateSet sets i kind parts operands
 
--- a number is a choice for a node: for a gate, the places that are bits of the number vary and have a signed sum that is not 0
+-- a number is a choice for a node: for a gate, the places that are bits of the number vary and have a signed sum that
+-- is not 0
 abbrev pub IsAllowedChoice : ℕ → Node → Type 0
 IsAllowedChoice number Nothing = Unit {0}
 IsAllowedChoice number (Label k) = Unit {0}
@@ -132,4 +142,5 @@ node_set sets number (Gate kind parts operands) l =
 pub record IsNodeSelection (nodes : List Node) (numbers : List ℕ) (sets : ℕ → Labels) : Type 0 where
   pub as_long : length numbers ≡ length nodes
   pub allowed : (i : ℕ) → i < length nodes → IsAllowedChoice (get_or numbers i 0) (get_or nodes i Nothing)
-  pub follows : (i : ℕ) → i < length nodes → (l : ℕ) → sets i l ≡ node_set sets (get_or numbers i 0) (get_or nodes i Nothing) l
+  pub follows : (i : ℕ) → i < length nodes → (l : ℕ)
+      → sets i l ≡ node_set sets (get_or numbers i 0) (get_or nodes i Nothing) l

@@ -16,20 +16,24 @@ use Rattle.coco_model.specs.Calm.{IsCalm}
 abbrev pub Reach : Type 0
 Reach = ℕ → ℕ → List ℕ
 
--- a cell's input at a place is live: it is not calm, and the output changes with it for some value of the others that are not calm
+-- a cell's input at a place is live: it is not calm, and the output changes with it for some value of the others that
+-- are not calm
 abbrev pub IsLive : Row → FlatCell → ℕ → Type 0
 IsLive calm cell place = IsLiveInput cell.kind (cell_parts calm cell) place
 
 -- a walk against the wires, through live inputs, from a bit to a leaf, where no bit is calm
 pub data Reaches (flat : Flat) (calm : Row) (leaf : ℕ) : ℕ → Type 0 where
   here : (IsCellBit flat leaf → ⊥) → calm leaf ≡ Vary → Reaches flat calm leaf leaf
-  through : (bit : ℕ) (cell : FlatCell) (place from : ℕ) → Contains flat.cells cell → cell.output ≡ bit → calm bit ≡ Vary
-      → IsLive calm cell place → get_or (wires_of cell) place (Const false) ≡ Bit from → Reaches flat calm leaf from → Reaches flat calm leaf bit
+  through : (bit : ℕ) (cell : FlatCell) (place from : ℕ) → Contains flat.cells cell → cell.output ≡ bit
+      → calm bit ≡ Vary
+      → IsLive calm cell place → get_or (wires_of cell) place (Const false) ≡ Bit from → Reaches flat calm leaf from
+      → Reaches flat calm leaf bit
 
 -- the leaves that the bits of one cycle reach, in ascending order
 abbrev pub IsReachedRow : Flat → Row → (ℕ → List ℕ) → Type 0
 IsReachedRow flat calm reached =
-    (b : ℕ) → b < flat.bits → IsStrictlyIncreasing (reached b) × ((leaf : ℕ) → Contains (reached b) leaf ↔ Reaches flat calm leaf b)
+    (b : ℕ) → b < flat.bits
+    → IsStrictlyIncreasing (reached b) × ((leaf : ℕ) → Contains (reached b) leaf ↔ Reaches flat calm leaf b)
 
 -- what a probe reaches in each cycle of a run: only calm bits block a path
 pub record IsReach (flat : Flat) (setup : Setup) (cycles : ℕ) (reach : Reach) : Type 0 where
@@ -43,10 +47,13 @@ pub record IsReach (flat : Flat) (setup : Setup) (cycles : ℕ) (reach : Reach) 
 -- a walk against the wires, through any inputs, from a bit to a leaf
 pub data Connects (flat : Flat) (clock : Option ℕ) (leaf : ℕ) : ℕ → Type 0 where
   here : IsLeaf flat clock leaf → Connects flat clock leaf leaf
-  through : (bit : ℕ) (cell : FlatCell) (from : ℕ) → Contains flat.cells cell → cell.output ≡ bit → Contains (wires_of cell) (Bit from)
+  through : (bit : ℕ) (cell : FlatCell) (from : ℕ) → Contains flat.cells cell → cell.output ≡ bit
+      → Contains (wires_of cell) (Bit from)
       → Connects flat clock leaf from → Connects flat clock leaf bit
 
--- the coarser reach by structure alone: a leaf reaches itself, and a cell's output all that its inputs reach; nothing blocks a path
+-- the coarser reach by structure alone: a leaf reaches itself, and a cell's output all that its inputs reach; nothing
+-- blocks a path
 pub record IsWideReach (flat : Flat) (setup : Setup) (cycles : ℕ) (reach : Reach) : Type 0 where
   pub ascending : (t b : ℕ) → t < cycles → b < flat.bits → IsStrictlyIncreasing (reach t b)
-  pub connected : (t b : ℕ) → t < cycles → b < flat.bits → (leaf : ℕ) → Contains (reach t b) leaf ↔ Connects flat setup.clock leaf b
+  pub connected : (t b : ℕ) → t < cycles → b < flat.bits → (leaf : ℕ)
+      → Contains (reach t b) leaf ↔ Connects flat setup.clock leaf b

@@ -32,16 +32,19 @@ pub record IsSteady (old now : Row) (old_root now_root : ℕ → Root) (w : Wire
 -- a cell keeps its root: there is a cycle before, and each input is as it was there
 abbrev pub IsKept : (ℕ → Row) → (ℕ → ℕ → Root) → ℕ → FlatCell → Type 0
 IsKept row root zero c = ⊥
-IsKept row root (suc t) c = (w : Wire) → Contains (wires_of c) w → IsSteady (row t) (row (suc t)) (root t) (root (suc t)) w
+IsKept row root (suc t) c =
+    (w : Wire) → Contains (wires_of c) w → IsSteady (row t) (row (suc t)) (root t) (root (suc t)) w
 
--- the root of a cell's output: nothing where it is known, that of the cycle before where the cell keeps it, and else the output itself
+-- the root of a cell's output: nothing where it is known, that of the cycle before where the cell keeps it, and else
+-- the output itself
 pub record HasCellRoot (row : ℕ → Row) (root : ℕ → ℕ → Root) (t : ℕ) (c : FlatCell) : Type 0 where
   pub known : row t c.output ≢ Vary → root t c.output ≡ nothing
   pub kept : row t c.output ≡ Vary → IsKept row root t c → root t c.output ≡ root (before t) c.output
   pub own : row t c.output ≡ Vary → (IsKept row root t c → ⊥) → root t c.output ≡ output t c.output
 
 -- the root of every bit in each cycle, and of every bit of every memory word
-pub record IsRooted (flat : Flat) (setup : Setup) (cycles : ℕ) (row : ℕ → Row) (root : ℕ → ℕ → Root) (word : ℕ → ℕ → ℕ → Root) : Type 0 where
+pub record IsRooted (flat : Flat) (setup : Setup) (cycles : ℕ) (row : ℕ → Row) (root : ℕ → ℕ → Root)
+    (word : ℕ → ℕ → ℕ → Root) : Type 0 where
   pub cells : (t : ℕ) → t < cycles → (c : FlatCell) → Contains flat.cells c → HasCellRoot row root t c
   pub carried : IsCarried roots flat setup cycles (λ t. ones (row t)) root word
 

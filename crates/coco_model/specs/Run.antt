@@ -15,7 +15,8 @@ abbrev pub values : Choice → States Bool
 values choice = record { constant = λ b. b; label = label_bit choice }
 
 -- a settled valuation and a memory for each cycle, whose memory ports do what the valuations say
-pub record IsRun (flat : Flat) (setup : Setup) (cycles : ℕ) (choice : Choice) (v : ℕ → Valuation) (m : ℕ → Memory) : Type 0 where
+pub record IsRun (flat : Flat) (setup : Setup) (cycles : ℕ) (choice : Choice) (v : ℕ → Valuation)
+    (m : ℕ → Memory) : Type 0 where
   pub settled : (t : ℕ) → t < cycles → IsSettled flat (v t)
   pub carried : IsCarried (values choice) flat setup cycles v v m
 
@@ -25,5 +26,6 @@ before zero = zero
 before (suc t) = t
 
 -- a run of every choice
-pub record AreRuns (flat : Flat) (setup : Setup) (cycles : ℕ) (run : Choice → ℕ → Valuation) (memory : Choice → ℕ → Memory) : Type 0 where
+pub record AreRuns (flat : Flat) (setup : Setup) (cycles : ℕ) (run : Choice → ℕ → Valuation)
+    (memory : Choice → ℕ → Memory) : Type 0 where
   pub each : (choice : Choice) → IsRun flat setup cycles choice (run choice) (memory choice)

@@ -26,7 +26,8 @@ IsWhenBelow memories Always = Unit {0}
 IsWhenBelow memories (Requested i) = i < memories
 IsWhenBelow memories (Written i) = i < memories
 
--- a memory port with 1 to 32 address wires and 32 answer bits; with a write wire it has 4 byte enables and 32 value wires
+-- a memory port with 1 to 32 address wires and 32 answer bits; with a write wire it has 4 byte enables and 32 value
+-- wires
 pub record IsMemoryPort (bits : ℕ) (mem : MemPlan) : Type 0 where
   pub some_address : 0 < length mem.address
   pub address : length mem.address ≤ 32
@@ -53,21 +54,25 @@ pub record IsClock (flat : Flat) (b : ℕ) : Type 0 where
   pub no_next : (f : FlatFlop) → Contains flat.flops f → f.next ≡ Bit b → ⊥
   pub no_reset : (f : FlatFlop) → Contains flat.flops f → f.reset ≡ Some (Bit b) → ⊥
 
--- a setup is bound to a netlist: its numbers are in range, its parts have their widths, inputs, echoes and memory answers start as
--- their plans say, at most one memory port writes, the words are apart, the controls are there, and each input port bit is bound once
+-- a setup is bound to a netlist: its numbers are in range, its parts have their widths, inputs, echoes and memory
+-- answers start as their plans say, at most one memory port writes, the words are apart, the controls are there, and
+-- each input port bit is bound once
 pub record IsBoundTo (flat : Flat) (setup : Setup) : Type 0 where
   pub table : IsLabelTable setup.table
   pub starts : length setup.starts ≡ flat.bits
   pub labels : (s : Start) → Contains setup.starts s → IsLabelled setup.table s
-  pub input_labels : (p : InputPlan) → Contains setup.inputs p → (s : Start) → Contains p.values s → IsLabelled setup.table s
+  pub input_labels : (p : InputPlan) → Contains setup.inputs p → (s : Start) → Contains p.values s
+      → IsLabelled setup.table s
   pub word_labels : (w : WordPlan) → Contains setup.words w → (s : Start) → Contains w.bits s → IsLabelled setup.table s
   pub first_values : (p : InputPlan) → Contains setup.inputs p → slice_get p.values 0 ≡ slice_get setup.starts p.bit
   pub some_values : (p : InputPlan) → Contains setup.inputs p → 0 < length p.values
   pub echoes : (e : EchoPlan) → Contains setup.echoes e → slice_get setup.starts e.bit ≡ Some (Public false)
-  pub answers : (mem : MemPlan) → Contains setup.memories mem → (b : ℕ) → Contains mem.answer b → slice_get setup.starts b ≡ Some (Public false)
+  pub answers : (mem : MemPlan) → Contains setup.memories mem → (b : ℕ) → Contains mem.answer b
+      → slice_get setup.starts b ≡ Some (Public false)
   pub sources : (e : EchoPlan) → Contains setup.echoes e → IsWireBelow flat.bits e.source
   pub memories : (mem : MemPlan) → Contains setup.memories mem → IsMemoryPort flat.bits mem
-  pub one_writer : (i j : ℕ) (one other : MemPlan) → slice_get setup.memories i ≡ Some one → slice_get setup.memories j ≡ Some other
+  pub one_writer : (i j : ℕ) (one other : MemPlan) → slice_get setup.memories i ≡ Some one
+      → slice_get setup.memories j ≡ Some other
       → IsSome one.write → IsSome other.write → i ≡ j
   pub words : (w : WordPlan) → Contains setup.words w → IsMemoryWord w
   pub apart : HasNoRepeat (map (λ (w : WordPlan). w.address) setup.words)

@@ -60,10 +60,12 @@ bits_of-map f g same [] = refl
 bits_of-map f g same (x ∷ xs) =
     let head : (f x).bit ≡ g x = same x in let tail : bits_of (map f xs) ≡ map g xs = bits_of-map f g same xs in cc
 
-pub bits_of-flat_map : {A X : Type 0} (f : A → List (Entry X)) (g : A → List ℕ) → ((x : A) → bits_of (f x) ≡ g x) → (xs : List A) → bits_of (flat_map f xs) ≡ flat_map g xs
+pub bits_of-flat_map : {A X : Type 0} (f : A → List (Entry X)) (g : A → List ℕ) → ((x : A) → bits_of (f x) ≡ g x) → (xs : List A)
+    → bits_of (flat_map f xs) ≡ flat_map g xs
 bits_of-flat_map f g same [] = refl
 bits_of-flat_map f g same (x ∷ xs) =
-    bits_of-append (f x) (flat_map f xs) ∙ ap (λ bs. bs ++ bits_of (flat_map f xs)) (same x) ∙ ap (λ bs. g x ++ bs) (bits_of-flat_map f g same xs)
+    bits_of-append (f x) (flat_map f xs) ∙ ap (λ bs. bs ++ bits_of (flat_map f xs)) (same x)
+    ∙ ap (λ bs. g x ++ bs) (bits_of-flat_map f g same xs)
 
 pub Contains-bits_of : {X : Type 0} (es : List (Entry X)) (e : Entry X) → Contains es e → Contains (bits_of es) e.bit
 Contains-bits_of [] e h = absurd (Contains-none e h)
@@ -81,17 +83,21 @@ eq_test a b apart = go (cases_Bool (nat_eq a b))
     go (inr e) = e
 
 -- a bit that is listed once has its state
-pub look-listed : {X : Type 0} (other : X) (es : List (Entry X)) → HasNoRepeat (bits_of es) → (e : Entry X) → Contains es e → look other es e.bit ≡ e.state
+pub look-listed : {X : Type 0} (other : X) (es : List (Entry X)) → HasNoRepeat (bits_of es) → (e : Entry X) → Contains es e
+    → look other es e.bit ≡ e.state
 look-listed other [] once e h = absurd (Contains-none e h)
 look-listed other (d ∷ es) once e h = go (Contains-cases d e es h) (λ i. look-listed other es once.1 e i)
   where
     go : (d ≡ e) ⊎ Contains es e → (Contains es e → look other es e.bit ≡ e.state) → look other (d ∷ es) e.bit ≡ e.state
     go (inl is) rest = ap (λ t. cond t d.state (look other es e.bit)) (eq-eqb d.bit e.bit (ap (λ x. x.bit) is)) ∙ ap (λ x. x.state) is
-    go (inr i) rest = ap (λ t. cond t d.state (look other es e.bit)) (eq_test d.bit e.bit (λ same. once.0 (subst (Contains (bits_of es)) (sym same) (Contains-bits_of es e i)))) ∙ rest i
+    go (inr i) rest =
+        ap (λ t. cond t d.state (look other es e.bit))
+        (eq_test d.bit e.bit (λ same. once.0 (subst (Contains (bits_of es)) (sym same) (Contains-bits_of es e i)))) ∙ rest i
 
 -- a bit that is not listed has the other state
 pub look-none : {X : Type 0} (other : X) (es : List (Entry X)) (b : ℕ) → (Contains (bits_of es) b → ⊥) → look other es b ≡ other
 look-none other [] b none = refl
 look-none other (e ∷ es) b none =
-    ap (λ t. cond t e.state (look other es b)) (eq_test e.bit b (λ same. none (subst (Contains (e.bit ∷ bits_of es)) same (Contains-here e.bit (bits_of es)))))
+    ap (λ t. cond t e.state (look other es b))
+    (eq_test e.bit b (λ same. none (subst (Contains (e.bit ∷ bits_of es)) same (Contains-here e.bit (bits_of es)))))
     ∙ look-none other es b (λ i. none (Contains-later e.bit b (bits_of es) i))

@@ -11,7 +11,8 @@ pub record IsAscending (x : ℕ) (xs : List ℕ) : Type 0 where
   pub rest : IsStrictlyIncreasing xs
 
 tail_ascending : (x : ℕ) (xs : List ℕ) → IsStrictlyIncreasing (x ∷ xs) → IsStrictlyIncreasing xs
-tail_ascending x xs up k below = let e : suc k + 1 ≡ suc (k + 1) = omega arith in subst (λ j. get_or xs k 0 < get_or (x ∷ xs) j 0) e (up (suc k) (omega arith))
+tail_ascending x xs up k below =
+    let e : suc k + 1 ≡ suc (k + 1) = omega arith in subst (λ j. get_or xs k 0 < get_or (x ∷ xs) j 0) e (up (suc k) (omega arith))
 
 pub ascending_parts : (x : ℕ) (xs : List ℕ) → IsStrictlyIncreasing (x ∷ xs) → IsAscending x xs
 ascending_parts x xs up = record { above = λ l h. above x xs up l h; rest = tail_ascending x xs up }
@@ -33,10 +34,12 @@ ascending_cons x (y ∷ ys) above up = go
   where
     go : IsStrictlyIncreasing (x ∷ y ∷ ys)
     go zero below = above y (Contains-here y ys)
-    go (suc k) below = let e : suc (k + 1) ≡ suc k + 1 = omega arith in subst (λ j. get_or (y ∷ ys) k 0 < get_or (x ∷ y ∷ ys) j 0) e (up k (omega arith))
+    go (suc k) below =
+        let e : suc (k + 1) ≡ suc k + 1 = omega arith in subst (λ j. get_or (y ∷ ys) k 0 < get_or (x ∷ y ∷ ys) j 0) e (up k (omega arith))
 
 -- ascending lists with the same members are one
-pub same_ascending : (xs ys : List ℕ) → IsStrictlyIncreasing xs → IsStrictlyIncreasing ys → ((l : ℕ) → Contains xs l → Contains ys l) → ((l : ℕ) → Contains ys l → Contains xs l) → xs ≡ ys
+pub same_ascending : (xs ys : List ℕ) → IsStrictlyIncreasing xs → IsStrictlyIncreasing ys → ((l : ℕ) → Contains xs l → Contains ys l)
+    → ((l : ℕ) → Contains ys l → Contains xs l) → xs ≡ ys
 same_ascending [] [] up down there back = refl
 same_ascending [] (y ∷ ys) up down there back = absurd (Contains-none y (back y (Contains-here y ys)))
 same_ascending (x ∷ xs) [] up down there back = absurd (Contains-none x (there x (Contains-here x xs)))
@@ -75,7 +78,8 @@ pub record HasList (P : ℕ → Type 0) (first count : ℕ) : Type 0 where
   pub complete : (l : ℕ) → first ≤ l → l < first + count → P l → Contains listed l
 
 pub list_of : (P : ℕ → Type 0) → ((l : ℕ) → P l ⊎ (P l → ⊥)) → (first count : ℕ) → HasList P first count
-list_of P decide first zero = record { listed = []; up = λ k below. absurd (omega arith); sound = λ l h. absurd (Contains-none l h); complete = λ l low high p. absurd (omega arith) }
+list_of P decide first zero =
+    record { listed = []; up = λ k below. absurd (omega arith); sound = λ l h. absurd (Contains-none l h); complete = λ l low high p. absurd (omega arith) }
 list_of P decide first (suc count) = go (decide first) (list_of P decide (suc first) count)
   where
     go : P first ⊎ (P first → ⊥) → HasList P (suc first) count → HasList P first (suc count)

@@ -1,5 +1,5 @@
 -- Calm bits keep still, and bits whose reached leaves agree show one waveform, under every schedule of gate events.
-use Rattle.std.proofs.Common.{◌≡◌, ◌≢◌, ℕ, zero, suc, ◌<◌, ◌⊎◌, inl, inr, Bool, true, false, cond, nat_eq, List, [], ◌∷◌, map, get_or, set, refl, sym, ◌∙◌, ap, subst, arith}
+use Rattle.std.proofs.Common.{◌≡◌, ◌≢◌, ℕ, zero, suc, ◌<◌, ◌⊎◌, inl, inr, Bool, true, false, cond, nat_eq, List, [], ◌∷◌, map, get_or, set, refl, sym, ◌∙◌, ap, subst}
 use Rattle.std.specs.Prelude.{Contains, slice_get, Option, Some, None}
 use Rattle.std.proofs.Math.ListN.{get_or-map}
 use Rattle.std.proofs.lemmas.Bool.{cases_Bool, eqb-true}
@@ -20,6 +20,7 @@ use Rattle.coco_model.specs.Reach.{Reaches}
 use Rattle.coco_model.specs.Reach.Reaches.{here, through}
 use Rattle.coco_model.specs.Events.{Event, put, put_cell, after_event, waveform}
 use Rattle.coco_model.specs.Events.Event.{leaf, cell}
+use Rattle.coco_model.proofs.Keepers.{before_below}
 use Rattle.coco_model.proofs.Basics.{Contains-here, Contains-later, Contains-cases, Contains-none}
 use Rattle.model_laws.proofs.Lists.{member_of_place}
 use Rattle.model_laws.proofs.Ranks.{by_rank}
@@ -50,7 +51,8 @@ both-allows_new Vary One b h = tt
 both-allows_new Vary Vary b h = tt
 
 -- what holds of a valuation, and of the value put at a bit, holds afterwards
-pub put-holds : (P : ℕ → Bool → Type 0) (v : Valuation) (bit : ℕ) (x : Bool) → P bit x → ((b : ℕ) → P b (v b)) → (b : ℕ) → P b (put v bit x b)
+pub put-holds : (P : ℕ → Bool → Type 0) (v : Valuation) (bit : ℕ) (x : Bool) → P bit x → ((b : ℕ) → P b (v b)) → (b : ℕ)
+    → P b (put v bit x b)
 put-holds P v bit x new old b = go (cases_Bool (nat_eq b bit))
   where
     go : (nat_eq b bit ≡ true) ⊎ (nat_eq b bit ≡ false) → P b (put v bit x b)
@@ -61,12 +63,16 @@ put-holds P v bit x new old b = go (cases_Bool (nat_eq b bit))
 pub record AllowsRow (calm : Row) (v : Valuation) : Type 0 where
   pub each : (b : ℕ) → Allows (calm b) (v b)
 
-cell-allows : (flat : Flat) (old now calm : Row) → IsCalm flat old now calm → (v : Valuation) → AllowsRow calm v → (c : FlatCell) → Contains flat.cells c → Allows (calm c.output) (cell_value v c)
+cell-allows : (flat : Flat) (old now calm : Row) → IsCalm flat old now calm → (v : Valuation) → AllowsRow calm v → (c : FlatCell)
+    → Contains flat.cells c → Allows (calm c.output) (cell_value v c)
 cell-allows flat old now calm still v allows c listed =
-    forced-allows c.kind (cell_parts calm c) (calm c.output) (map (wire_value v) (wires_of c)) (still.forced.cells c listed) (wires-allow calm v (wires_of c) (λ b h. allows.each b))
+    forced-allows c.kind (cell_parts calm c) (calm c.output) (map (wire_value v) (wires_of c)) (still.forced.cells c listed)
+    (wires-allow calm v (wires_of c) (λ b h. allows.each b))
 
-event-calm : (flat : Flat) (old now calm : Row) → IsCalm flat old now calm → (new v : Valuation) → AllowsRow calm new → AllowsRow calm v → (e : Event) → AllowsRow calm (after_event flat new v e)
-event-calm flat old now calm still new v allows_new allows (leaf bit) = record { each = put-holds (λ b x. Allows (calm b) x) v bit (new bit) (allows_new.each bit) allows.each }
+event-calm : (flat : Flat) (old now calm : Row) → IsCalm flat old now calm → (new v : Valuation) → AllowsRow calm new → AllowsRow calm v
+    → (e : Event) → AllowsRow calm (after_event flat new v e)
+event-calm flat old now calm still new v allows_new allows (leaf bit) =
+    record { each = put-holds (λ b x. Allows (calm b) x) v bit (new bit) (allows_new.each bit) allows.each }
 event-calm flat old now calm still new v allows_new allows (cell index) = go (slice_get flat.cells index) refl
   where
     go : (o : Option FlatCell) → slice_get flat.cells index ≡ o → AllowsRow calm (put_cell v o)
@@ -87,7 +93,8 @@ waveform-calm flat old now calm still new v allows_new allows (e ∷ es) b x h =
     go (Contains-cases (v b) x (waveform flat new b (after_event flat new v e) es) h)
     (λ i. waveform-calm flat old now calm still new (after_event flat new v e) allows_new (event-calm flat old now calm still new v allows_new allows e) es b x i)
   where
-    go : (v b ≡ x) ⊎ Contains (waveform flat new b (after_event flat new v e) es) x → (Contains (waveform flat new b (after_event flat new v e) es) x → Allows (calm b) x) → Allows (calm b) x
+    go : (v b ≡ x) ⊎ Contains (waveform flat new b (after_event flat new v e) es) x
+        → (Contains (waveform flat new b (after_event flat new v e) es) x → Allows (calm b) x) → Allows (calm b) x
     go (inl is) rest = subst (Allows (calm b)) is (allows.each b)
     go (inr i) rest = rest i
 
@@ -99,11 +106,8 @@ pub record AreCalm (flat : Flat) (rank : ℕ → ℕ) (calm : Row) (old new : Va
   pub old_allowed : AllowsRow calm old
   pub new_allowed : AllowsRow calm new
 
-pub before_below : (t cycles : ℕ) → t < cycles → before t < cycles
-before_below zero cycles below = below
-before_below (suc t) cycles below = omega arith
-
-calm_cycle : (flat : Flat) (setup : Setup) (cycles : ℕ) (rank : ℕ → ℕ) (row : ℕ → Row) (word : ℕ → ℕ → Row) → IsChecked flat setup cycles rank row word
+calm_cycle : (flat : Flat) (setup : Setup) (cycles : ℕ) (rank : ℕ → ℕ) (row : ℕ → Row) (word : ℕ → ℕ → Row)
+    → IsChecked flat setup cycles rank row word
     → (choice : Choice) (v : ℕ → Valuation) (m : ℕ → Memory) → IsRun flat setup cycles choice v m
     → (t : ℕ) → t < cycles → (calm : Row) → IsCalm flat (row (before t)) (row t) calm → AreCalm flat rank calm (v (before t)) (v t)
 calm_cycle flat setup cycles rank row word checked choice v m run t below calm still = record {
@@ -170,11 +174,13 @@ same_output f (p ∷ ps) (x ∷ xs) (y ∷ ys) a b same =
     live_first : Allows p false → Allows p true → f (false ∷ xs) ≢ f (true ∷ xs) → IsLiveOf f (p ∷ ps) 0
     live_first low high changes = record { varies = allows_both p low high; inputs = false ∷ xs; allowed = (low, a.1); changes = changes }
 
-    rising : Allows p false → Allows p true → (IsLiveOf f (p ∷ ps) 0 → false ≡ true) → (f (false ∷ xs) ≡ f (true ∷ xs)) ⊎ (f (false ∷ xs) ≢ f (true ∷ xs)) → f (false ∷ xs) ≡ f (true ∷ xs)
+    rising : Allows p false → Allows p true → (IsLiveOf f (p ∷ ps) 0 → false ≡ true)
+        → (f (false ∷ xs) ≡ f (true ∷ xs)) ⊎ (f (false ∷ xs) ≢ f (true ∷ xs)) → f (false ∷ xs) ≡ f (true ∷ xs)
     rising low high agree (inl e) = e
     rising low high agree (inr n) = absurd (let e = agree (live_first low high n) in cc)
 
-    falling : Allows p false → Allows p true → (IsLiveOf f (p ∷ ps) 0 → true ≡ false) → (f (false ∷ xs) ≡ f (true ∷ xs)) ⊎ (f (false ∷ xs) ≢ f (true ∷ xs)) → f (true ∷ xs) ≡ f (false ∷ xs)
+    falling : Allows p false → Allows p true → (IsLiveOf f (p ∷ ps) 0 → true ≡ false)
+        → (f (false ∷ xs) ≡ f (true ∷ xs)) ⊎ (f (false ∷ xs) ≢ f (true ∷ xs)) → f (true ∷ xs) ≡ f (false ∷ xs)
     falling low high agree (inl e) = sym e
     falling low high agree (inr n) = absurd (let e = agree (live_first low high n) in cc)
 
@@ -212,24 +218,32 @@ vary_bit row (Const true) e = absurd cc
 vary_bit row (Bit n) e = (n, refl)
 
 -- a cell computes one value in two worlds that agree on the bits whose leaves are good, where its output is such a bit
-same_cell : (flat : Flat) (old now calm : Row) → IsCalm flat old now calm → (good : ℕ → Type 0) (v w : Valuation) → AllowsRow calm v → AllowsRow calm w
+same_cell : (flat : Flat) (old now calm : Row) → IsCalm flat old now calm → (good : ℕ → Type 0) (v w : Valuation) → AllowsRow calm v
+    → AllowsRow calm w
     → (c : FlatCell) → Contains flat.cells c → ReachesGood flat calm good c.output
     → ((b : ℕ) → Contains (wires_of c) (Bit b) → ReachesGood flat calm good b → v b ≡ w b) → cell_value v c ≡ cell_value w c
 same_cell flat old now calm still good v w allows_v allows_w c listed reaches same = go (vary_or_not (calm c.output))
   where
     go : (calm c.output ≡ Vary) ⊎ (calm c.output ≢ Vary) → cell_value v c ≡ cell_value w c
-    go (inr known) = allowed_once (calm c.output) _ _ known (cell-allows flat old now calm still v allows_v c listed) (cell-allows flat old now calm still w allows_w c listed)
+    go (inr known) =
+        allowed_once (calm c.output) _ _ known (cell-allows flat old now calm still v allows_v c listed)
+        (cell-allows flat old now calm still w allows_w c listed)
     go (inl varies) = same_output (output_of c.kind) (cell_parts calm c) (map (wire_value v) (wires_of c)) (map (wire_value w) (wires_of c))
         (wires-allow calm v (wires_of c) (λ b h. allows_v.each b)) (wires-allow calm w (wires_of c) (λ b h. allows_w.each b)) at_place
       where
-        at_place : (place : ℕ) → IsLiveOf (output_of c.kind) (cell_parts calm c) place → get_or (map (wire_value v) (wires_of c)) place false ≡ get_or (map (wire_value w) (wires_of c)) place false
+        at_place : (place : ℕ) → IsLiveOf (output_of c.kind) (cell_parts calm c) place
+            → get_or (map (wire_value v) (wires_of c)) place false ≡ get_or (map (wire_value w) (wires_of c)) place false
         at_place place live =
-            let part : wire_part calm (get_or (wires_of c) place (Const false)) ≡ Vary = sym (get_or-map (wire_part calm) (wires_of c) place (Const false)) ∙ live.varies in
+            let part : wire_part calm (get_or (wires_of c) place (Const false)) ≡ Vary =
+            sym (get_or-map (wire_part calm) (wires_of c) place (Const false)) ∙ live.varies in
             let bit = vary_bit calm (get_or (wires_of c) place (Const false)) part in
-            get_or-map (wire_value v) (wires_of c) place (Const false) ∙ ap (wire_value v) bit.1 ∙ here bit.0 bit.1 live ∙ sym (ap (wire_value w) bit.1) ∙ sym (get_or-map (wire_value w) (wires_of c) place (Const false))
+            get_or-map (wire_value v) (wires_of c) place (Const false) ∙ ap (wire_value v) bit.1 ∙ here bit.0 bit.1 live
+            ∙ sym (ap (wire_value w) bit.1) ∙ sym (get_or-map (wire_value w) (wires_of c) place (Const false))
           where
-            here : (n : ℕ) → get_or (wires_of c) place (Const false) ≡ Bit n → IsLiveOf (output_of c.kind) (cell_parts calm c) place → v n ≡ w n
-            here n is live = same n (member_at (wires_of c) place n is) (λ leaf walk. reaches leaf (through c.output c place n listed refl varies
+            here : (n : ℕ) → get_or (wires_of c) place (Const false) ≡ Bit n → IsLiveOf (output_of c.kind) (cell_parts calm c) place
+                → v n ≡ w n
+            here n is live =
+                same n (member_at (wires_of c) place n is) (λ leaf walk. reaches leaf (through c.output c place n listed refl varies
                 (record { varies = live.varies; inputs = live.inputs; allowed = live.allowed; changes = live.changes }) is walk))
 
 -- two worlds that a row allows, which agree on the bits whose leaves are good
@@ -239,8 +253,10 @@ pub record AreAlike (calm : Row) (agreed : ℕ → Type 0) (v w : Valuation) : T
   pub same : (b : ℕ) → agreed b → v b ≡ w b
 
 -- settled valuations that agree on the good leaves are alike
-settled_alike : (flat : Flat) (rank : ℕ → ℕ) (old now calm : Row) → IsCalm flat old now calm → IsRanked flat rank → (good : ℕ → Type 0) (v w : Valuation)
-    → IsSettled flat v → IsSettled flat w → AllowsRow calm v → AllowsRow calm w → ((b : ℕ) → good b → v b ≡ w b) → AreAlike calm (ReachesGood flat calm good) v w
+settled_alike : (flat : Flat) (rank : ℕ → ℕ) (old now calm : Row) → IsCalm flat old now calm → IsRanked flat rank
+    → (good : ℕ → Type 0) (v w : Valuation)
+    → IsSettled flat v → IsSettled flat w → AllowsRow calm v → AllowsRow calm w → ((b : ℕ) → good b → v b ≡ w b)
+    → AreAlike calm (ReachesGood flat calm good) v w
 settled_alike flat rank old now calm still ranked good v w settled_v settled_w allows_v allows_w good_same = record {
   left = allows_v;
   right = allows_w;
@@ -257,9 +273,11 @@ settled_alike flat rank old now calm still ranked good v w settled_v settled_w a
     cells : (c : FlatCell) → Contains flat.cells c → ((b : ℕ) → Contains (wires_of c) (Bit b) → ReachesGood flat calm good b → v b ≡ w b)
         → ReachesGood flat calm good c.output → v c.output ≡ w c.output
     cells c listed same reaches =
-        settled_v.cells c listed ∙ same_cell flat old now calm still good v w allows_v allows_w c listed reaches same ∙ sym (settled_w.cells c listed)
+        settled_v.cells c listed ∙ same_cell flat old now calm still good v w allows_v allows_w c listed reaches same
+        ∙ sym (settled_w.cells c listed)
 
-put-same : (P : ℕ → Type 0) (v w : Valuation) (bit : ℕ) (x y : Bool) → (P bit → x ≡ y) → ((b : ℕ) → P b → v b ≡ w b) → (b : ℕ) → P b → put v bit x b ≡ put w bit y b
+put-same : (P : ℕ → Type 0) (v w : Valuation) (bit : ℕ) (x y : Bool) → (P bit → x ≡ y) → ((b : ℕ) → P b → v b ≡ w b) → (b : ℕ) → P b
+    → put v bit x b ≡ put w bit y b
 put-same P v w bit x y new old b h = go (cases_Bool (nat_eq b bit))
   where
     go : (nat_eq b bit ≡ true) ⊎ (nat_eq b bit ≡ false) → put v bit x b ≡ put w bit y b
@@ -298,7 +316,8 @@ waveform-alike flat old now calm still good new_v new_w v w new alike b reaches 
 pub waveform_law : WaveformLaw
 unfolding WaveformLaw
 waveform_law flat setup cycles rank row word checked one other v w m n run_v run_w t below calm still b agree events =
-    waveform-alike flat (row (before t)) (row t) calm still good (v t) (w t) (v (before t)) (w (before t)) new old b (λ leaf walk. agree leaf walk) events
+    waveform-alike flat (row (before t)) (row t) calm still good (v t) (w t) (v (before t))
+    (w (before t)) new old b (λ leaf walk. agree leaf walk) events
   where
     good : ℕ → Type 0
     good seen = (v (before t) seen ≡ w (before t) seen) × (v t seen ≡ w t seen)

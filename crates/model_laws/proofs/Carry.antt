@@ -77,15 +77,19 @@ leaf_of flat setup bound b no_cell = go (flop_bit_or_not flat b) (input_bit_or_n
 pub record IsLink {X Y : Type 0} (one : States X) (other : States Y) (good : Start → Type 0) (flat : Flat) (setup : Setup) (cycles : ℕ)
     (v w : ℕ → Valuation) (s : ℕ → ℕ → X) (u : ℕ → ℕ → Y) (leaf bit : ℕ → X → Y → Type 0) : Type 0 where
   pub constants : (t : ℕ) (b : Bool) → leaf t (one.constant b) (other.constant b)
-  pub starts : (t : ℕ) → t < cycles → (start : Start) → good start → leaf t (start_state one setup.table t start) (start_state other setup.table t start)
-  pub settles : (t : ℕ) → t < cycles → ((r : ℕ) → r < t → (b : ℕ) → bit r (s r b) (u r b)) → ((b : ℕ) → (IsCellBit flat b → ⊥) → leaf t (s t b) (u t b))
+  pub starts : (t : ℕ) → t < cycles → (start : Start) → good start
+      → leaf t (start_state one setup.table t start) (start_state other setup.table t start)
+  pub settles : (t : ℕ) → t < cycles → ((r : ℕ) → r < t → (b : ℕ) → bit r (s r b) (u r b))
+      → ((b : ℕ) → (IsCellBit flat b → ⊥) → leaf t (s t b) (u t b))
       → (b : ℕ) → bit t (s t b) (u t b)
   pub passes : (t : ℕ) (x : X) (y : Y) → bit t x y → leaf (suc t) x y
   pub stays : (t : ℕ) (x : X) (y : Y) → leaf t x y → leaf (suc t) x y
-  pub requests : (t : ℕ) → suc t < cycles → ((b : ℕ) → bit t (s t b) (u t b)) → (mem : MemPlan) → Contains setup.memories mem → AreSameRequests (v t) (w t) mem
+  pub requests : (t : ℕ) → suc t < cycles → ((b : ℕ) → bit t (s t b) (u t b)) → (mem : MemPlan) → Contains setup.memories mem
+      → AreSameRequests (v t) (w t) mem
 
 -- what holds in a cycle
-pub record IsLinked {X Y : Type 0} (flat : Flat) (s : ℕ → X) (u : ℕ → Y) (s_word : ℕ → ℕ → X) (u_word : ℕ → ℕ → Y) (leaf bit : X → Y → Type 0) : Type 0 where
+pub record IsLinked {X Y : Type 0} (flat : Flat) (s : ℕ → X) (u : ℕ → Y) (s_word : ℕ → ℕ → X) (u_word : ℕ → ℕ → Y)
+    (leaf bit : X → Y → Type 0) : Type 0 where
   pub leaves : (b : ℕ) → (IsCellBit flat b → ⊥) → leaf (s b) (u b)
   pub bits : (b : ℕ) → bit (s b) (u b)
   pub words : (address k : ℕ) → leaf (s_word address k) (u_word address k)
@@ -93,24 +97,28 @@ pub record IsLinked {X Y : Type 0} (flat : Flat) (s : ℕ → X) (u : ℕ → Y)
 pub along : {X Y : Type 0} (R : X → Y → Type 0) {x x' : X} {y y' : Y} → x ≡ x' → y ≡ y' → R x' y' → R x y
 along R {x} {x'} {y} {y'} e f h = subst (λ a. R a y) (sym e) (subst (R x') (sym f) h)
 
-cond-linked : {X Y : Type 0} (R : X → Y → Type 0) (a b : Bool) (x x' : X) (y y' : Y) → a ≡ b → (b ≡ true → R x y) → R x' y' → R (cond a x x') (cond b y y')
+cond-linked : {X Y : Type 0} (R : X → Y → Type 0) (a b : Bool) (x x' : X) (y y' : Y) → a ≡ b → (b ≡ true → R x y) → R x' y'
+    → R (cond a x x') (cond b y y')
 cond-linked R true true x x' y y' e h i = h refl
 cond-linked R false false x x' y y' e h i = i
 cond-linked R true false x x' y y' e h i = absurd cc
 cond-linked R false true x x' y y' e h i = absurd cc
 
 on_wire-linked : {X Y : Type 0} (R Q : X → Y → Type 0) (one : Bool → X) (other : Bool → Y) (s : ℕ → X) (u : ℕ → Y)
-    → ((b : Bool) → R (one b) (other b)) → ((x : X) (y : Y) → Q x y → R x y) → ((b : ℕ) → Q (s b) (u b)) → (w : Wire) → R (on_wire one s w) (on_wire other u w)
+    → ((b : Bool) → R (one b) (other b)) → ((x : X) (y : Y) → Q x y → R x y) → ((b : ℕ) → Q (s b) (u b)) → (w : Wire)
+    → R (on_wire one s w) (on_wire other u w)
 on_wire-linked R Q one other s u constants passes bits (Const b) = constants b
 on_wire-linked R Q one other s u constants passes bits (Bit n) = passes (s n) (u n) (bits n)
 
 pub start_word-linked : {X Y : Type 0} (R : X → Y → Type 0) (one : States X) (other : States Y) (setup : Setup) (good : Start → Type 0)
-    → ((b : Bool) → R (one.constant b) (other.constant b)) → ((start : Start) → good start → R (start_state one setup.table 0 start) (start_state other setup.table 0 start))
+    → ((b : Bool) → R (one.constant b) (other.constant b))
+    → ((start : Start) → good start → R (start_state one setup.table 0 start) (start_state other setup.table 0 start))
     → (words : List WordPlan) → ((w : WordPlan) → Contains words w → (k : ℕ) → good (get_or w.bits k (Public false)))
     → (address k : ℕ) → R (start_word one setup.table words address k) (start_word other setup.table words address k)
 start_word-linked R one other setup good constants starts [] all address k = constants false
 start_word-linked R one other setup good constants starts (w ∷ words) all address k =
-    cond-linked R (nat_eq w.address address) (nat_eq w.address address) _ _ _ _ refl (λ e. starts (get_or w.bits k (Public false)) (all w (Contains-here w words) k))
+    cond-linked R (nat_eq w.address address)
+    (nat_eq w.address address) _ _ _ _ refl (λ e. starts (get_or w.bits k (Public false)) (all w (Contains-here w words) k))
     (start_word-linked R one other setup good constants starts words (λ x h. all x (Contains-later w x words h)) address k)
 
 pub stored_word-linked : {X Y : Type 0} (R Q : X → Y → Type 0) (one : States X) (other : States Y) (v w : Valuation) (s : ℕ → X) (u : ℕ → Y)
@@ -124,29 +132,37 @@ stored_word-linked R Q one other v w s u constants passes bits (mem ∷ mems) sa
     (stored_word-linked R Q one other v w s u constants passes bits mems (λ m i. same m (Contains-later mem m mems i)) address k x y h)
 
 -- the leaves of the first cycle are related
-pub first-linked : {X Y : Type 0} (one : States X) (other : States Y) (good : Start → Type 0) (flat : Flat) (setup : Setup) (s : ℕ → X) (u : ℕ → Y)
+pub first-linked : {X Y : Type 0} (one : States X) (other : States Y) (good : Start → Type 0) (flat : Flat) (setup : Setup) (s : ℕ → X)
+    (u : ℕ → Y)
     (s_word : ℕ → ℕ → X) (u_word : ℕ → ℕ → Y) (leaf : X → Y → Type 0)
-    → ((b : Bool) → leaf (one.constant b) (other.constant b)) → ((start : Start) → good start → leaf (start_state one setup.table 0 start) (start_state other setup.table 0 start))
+    → ((b : Bool) → leaf (one.constant b) (other.constant b))
+    → ((start : Start) → good start → leaf (start_state one setup.table 0 start) (start_state other setup.table 0 start))
     → IsBound flat setup → AreStarts good flat setup
     → IsGiven one flat setup 0 s → IsGiven other flat setup 0 u → IsFirst one flat setup s s_word → IsFirst other flat setup u u_word
     → (b : ℕ) → (IsCellBit flat b → ⊥) → leaf (s b) (u b)
-first-linked one other good flat setup s u s_word u_word leaf constants starts bound all given_s given_u first_s first_u b no_cell = go (leaf_of flat setup bound b no_cell)
+first-linked one other good flat setup s u s_word u_word leaf constants starts bound all given_s given_u first_s first_u b no_cell =
+    go (leaf_of flat setup bound b no_cell)
   where
     go : Leaf flat setup b → leaf (s b) (u b)
     go (undriven h) = along leaf (given_s.undriven b h) (given_u.undriven b h) (constants false)
     go (clock h) = along leaf (given_s.clock b h) (given_u.clock b h) (constants false)
-    go (input p h e) = subst (λ c. leaf (s c) (u c)) e (along leaf (given_s.inputs p h) (given_u.inputs p h) (starts (entry_of p.values 0) (all.inputs p h 0)))
+    go (input p h e) =
+        subst (λ c. leaf (s c) (u c)) e (along leaf (given_s.inputs p h) (given_u.inputs p h) (starts (entry_of p.values 0) (all.inputs p h 0)))
     go (echo p h e) = subst (λ c. leaf (s c) (u c)) e (along leaf (first_s.echoes p h) (first_u.echoes p h) (constants false))
     go (answer mem h k at) = along leaf (first_s.answers mem h k b at) (first_u.answers mem h k b at) (constants false)
-    go (flop f h e) = subst (λ c. leaf (s c) (u c)) e (along leaf (first_s.flops f h) (first_u.flops f h) (starts (get_or setup.starts f.output (Public false)) (all.flops f h)))
+    go (flop f h e) =
+        subst (λ c. leaf (s c) (u c)) e (along leaf (first_s.flops f h) (first_u.flops f h) (starts (get_or setup.starts f.output (Public false)) (all.flops f h)))
 
 -- the leaves of a later cycle are related
-pub next-linked : {X Y : Type 0} (one : States X) (other : States Y) (good : Start → Type 0) (flat : Flat) (setup : Setup) (t : ℕ) (v w : Valuation)
+pub next-linked : {X Y : Type 0} (one : States X) (other : States Y) (good : Start → Type 0) (flat : Flat) (setup : Setup) (t : ℕ)
+    (v w : Valuation)
     (s s' : ℕ → X) (u u' : ℕ → Y) (s_word s_word' : ℕ → ℕ → X) (u_word u_word' : ℕ → ℕ → Y) (leaf bit old : X → Y → Type 0)
-    → ((b : Bool) → leaf (one.constant b) (other.constant b)) → ((start : Start) → good start → leaf (start_state one setup.table t start) (start_state other setup.table t start))
+    → ((b : Bool) → leaf (one.constant b) (other.constant b))
+    → ((start : Start) → good start → leaf (start_state one setup.table t start) (start_state other setup.table t start))
     → ((x : X) (y : Y) → bit x y → leaf x y) → ((x : X) (y : Y) → old x y → leaf x y)
     → IsBound flat setup → AreStarts good flat setup → ((mem : MemPlan) → Contains setup.memories mem → AreSameRequests v w mem)
-    → IsGiven one flat setup t s' → IsGiven other flat setup t u' → IsNext one flat setup v s s_word s' s_word' → IsNext other flat setup w u u_word u' u_word'
+    → IsGiven one flat setup t s' → IsGiven other flat setup t u' → IsNext one flat setup v s s_word s' s_word'
+    → IsNext other flat setup w u u_word u' u_word'
     → ((b : ℕ) → bit (s b) (u b)) → ((address k : ℕ) → old (s_word address k) (u_word address k))
     → (b : ℕ) → (IsCellBit flat b → ⊥) → leaf (s' b) (u' b)
 next-linked one other good flat setup t v w s s' u u' s_word s_word' u_word u_word' leaf bit old constants starts passes stays bound all same given_s given_u next_s next_u bits words b no_cell =
@@ -164,7 +180,8 @@ next-linked one other good flat setup t v w s s' u u' s_word s_word' u_word u_wo
     go : Leaf flat setup b → leaf (s' b) (u' b)
     go (undriven h) = along leaf (given_s.undriven b h) (given_u.undriven b h) (constants false)
     go (clock h) = along leaf (given_s.clock b h) (given_u.clock b h) (constants false)
-    go (input p h e) = subst (λ c. leaf (s' c) (u' c)) e (along leaf (given_s.inputs p h) (given_u.inputs p h) (starts (entry_of p.values t) (all.inputs p h t)))
+    go (input p h e) =
+        subst (λ c. leaf (s' c) (u' c)) e (along leaf (given_s.inputs p h) (given_u.inputs p h) (starts (entry_of p.values t) (all.inputs p h t)))
     go (echo p h e) = subst (λ c. leaf (s' c) (u' c)) e (along leaf (next_s.echoes p h) (next_u.echoes p h) (wires p.source))
     go (answer mem h k at) = along leaf (next_s.answers mem h k b at) (next_u.answers mem h k b at) (answered mem h k)
     go (flop f h e) = subst (λ c. leaf (s' c) (u' c)) e (along leaf (next_s.flops f h) (next_u.flops f h) (wires f.next))
@@ -175,7 +192,8 @@ pub carried-linked : {X Y : Type 0} (one : States X) (other : States Y) (good : 
     → IsBound flat setup → AreStarts good flat setup → IsLink one other good flat setup cycles v w s u leaf bit
     → IsCarried one flat setup cycles v s s_word → IsCarried other flat setup cycles w u u_word
     → (t : ℕ) → t < cycles → IsLinked flat (s t) (u t) (s_word t) (u_word t) (leaf t) (bit t)
-carried-linked one other good flat setup cycles v w s u s_word u_word leaf bit bound all link carried_s carried_u t below = each (suc t) t (omega arith) below
+carried-linked one other good flat setup cycles v w s u s_word u_word leaf bit bound all link carried_s carried_u t below =
+    each (suc t) t (omega arith) below
   where
     Linked : ℕ → Type 0
     Linked t = IsLinked flat (s t) (u t) (s_word t) (u_word t) (leaf t) (bit t)
@@ -197,7 +215,8 @@ carried-linked one other good flat setup cycles v w s u s_word u_word leaf bit b
     step (suc t) below lower = settled (suc t) below lower
         (next-linked one other good flat setup (suc t) (v t) (w t) (s t) (s (suc t)) (u t) (u (suc t)) (s_word t) (s_word (suc t)) (u_word t) (u_word (suc t))
         (leaf (suc t)) (bit t) (leaf t) (link.constants (suc t)) (link.starts (suc t) below) (link.passes t) (link.stays t) bound all same
-        (carried_s.given (suc t) below) (carried_u.given (suc t) below) (carried_s.next t below) (carried_u.next t below) here.bits here.words)
+        (carried_s.given (suc t) below) (carried_u.given (suc t) below) (carried_s.next t below)
+        (carried_u.next t below) here.bits here.words)
         (λ address k. along (leaf (suc t)) ((carried_s.next t below).words address k) ((carried_u.next t below).words address k)
         (stored_word-linked (leaf (suc t)) (bit t) one other (v t) (w t) (s t) (u t) (link.constants (suc t)) (link.passes t) here.bits setup.memories same
         address k (s_word t address k) (u_word t address k) (link.stays t _ _ (here.words address k))))

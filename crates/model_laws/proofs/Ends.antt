@@ -14,7 +14,8 @@ use Rattle.model_laws.proofs.Ranks.{cell_bit_or_not}
 use Rattle.model_laws.proofs.Forced.{on_wires-cong}
 use Rattle.model_laws.specs.Laws.{EndLaw}
 
-after_events-append : (flat : Flat) (new now : Valuation) (es fs : List Event) → after_events flat new now (es ++ fs) ≡ after_events flat new (after_events flat new now es) fs
+after_events-append : (flat : Flat) (new now : Valuation) (es fs : List Event)
+    → after_events flat new now (es ++ fs) ≡ after_events flat new (after_events flat new now es) fs
 after_events-append flat new now [] fs = refl
 after_events-append flat new now (e ∷ es) fs = after_events-append flat new (after_event flat new now e) es fs
 
@@ -27,7 +28,8 @@ put-right new now bit x right b h = go (cases_Bool (nat_eq b bit)) h
     go (inr e) (inl same) = absurd (let f = eq-eqb b bit same in let g : true ≡ false = sym f ∙ e in cc)
     go (inr e) (inr is) = ap (λ t. cond t x (now b)) e ∙ is
 
-after_leaves : (flat : Flat) (new now : Valuation) (leaves : List ℕ) (b : ℕ) → Contains leaves b ⊎ (now b ≡ new b) → after_events flat new now (map leaf leaves) b ≡ new b
+after_leaves : (flat : Flat) (new now : Valuation) (leaves : List ℕ) (b : ℕ) → Contains leaves b ⊎ (now b ≡ new b)
+    → after_events flat new now (map leaf leaves) b ≡ new b
 after_leaves flat new now [] b (inl h) = absurd (Contains-none b h)
 after_leaves flat new now [] b (inr e) = e
 after_leaves flat new now (a ∷ leaves) b h = after_leaves flat new (put now a (new a)) leaves b (next h)
@@ -41,7 +43,8 @@ after_leaves flat new now (a ∷ leaves) b h = after_leaves flat new (put now a 
     next (inr e) = inr (put-right new now a (new a) refl b (inr e))
 
 after_cells : (flat : Flat) (new now : Valuation) → IsSettled flat new → (done order : List ℕ) → IsCellOrder flat done order
-    → ((b : ℕ) → (IsCellBit flat b → ⊥) → now b ≡ new b) → ((b : ℕ) → Contains done b → now b ≡ new b) → (b : ℕ) → after_events flat new now (map cell order) b ≡ new b
+    → ((b : ℕ) → (IsCellBit flat b → ⊥) → now b ≡ new b) → ((b : ℕ) → Contains done b → now b ≡ new b) → (b : ℕ)
+    → after_events flat new now (map cell order) b ≡ new b
 after_cells flat new now settled done [] all leaves right b = go (cell_bit_or_not flat b)
   where
     go : IsCellBit flat b ⊎ (IsCellBit flat b → ⊥) → now b ≡ new b

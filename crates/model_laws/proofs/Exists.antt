@@ -44,14 +44,17 @@ abbrev pub old_of : {X : Type 0} → X → (ℕ → ℕ → X) → ℕ → ℕ �
 old_of none state zero b = none
 old_of none state (suc t) b = state t b
 
-pub record HasCarried {X : Type 0} (one : States X) (flat : Flat) (setup : Setup) (f : CellFunction X) (v_of : ℕ → (ℕ → X) → Valuation) : Type 0 where
+pub record HasCarried {X : Type 0} (one : States X) (flat : Flat) (setup : Setup) (f : CellFunction X)
+    (v_of : ℕ → (ℕ → X) → Valuation) : Type 0 where
   pub state : ℕ → ℕ → X
   pub word : ℕ → ℕ → ℕ → X
   pub carried : (cycles : ℕ) → IsCarried one flat setup cycles (λ t. v_of t (state t)) state word
   pub cells : (t : ℕ) (c : FlatCell) → Contains flat.cells c → state t c.output ≡ f t (old_of (one.constant false) state t) c (state t)
 
-pub carried_exists : {X : Type 0} (one : States X) (flat : Flat) (setup : Setup) (rank : ℕ → ℕ) (f : CellFunction X) (v_of : ℕ → (ℕ → X) → Valuation)
-    → IsRanked flat rank → IsBound flat setup → HasOneDriver flat → ((t : ℕ) (old : ℕ → X) → ReadsWires (f t old)) → HasCarried one flat setup f v_of
+pub carried_exists : {X : Type 0} (one : States X) (flat : Flat) (setup : Setup) (rank : ℕ → ℕ) (f : CellFunction X)
+    (v_of : ℕ → (ℕ → X) → Valuation)
+    → IsRanked flat rank → IsBound flat setup → HasOneDriver flat → ((t : ℕ) (old : ℕ → X) → ReadsWires (f t old))
+    → HasCarried one flat setup f v_of
 carried_exists {X} one flat setup rank f v_of ranked bound driven reads = record {
   state = λ t. (cycle t).state;
   word = λ t. (cycle t).word;
@@ -98,12 +101,14 @@ carried_exists {X} one flat setup rank f v_of ranked bound driven reads = record
 
     sources : (t : ℕ) → HasSources flat setup (sources_of t) (cycle t).state
     sources zero = leaf_states flat setup (sources_of 0) bound driven (cycle 0).state (solved 0 none (sources_of 0)).leaves
-    sources (suc t) = leaf_states flat setup (sources_of (suc t)) bound driven (cycle (suc t)).state (solved (suc t) (cycle t).state (sources_of (suc t))).leaves
+    sources (suc t) =
+        leaf_states flat setup (sources_of (suc t)) bound driven (cycle (suc t)).state (solved (suc t) (cycle t).state (sources_of (suc t))).leaves
 
     given : (t : ℕ) → IsGiven one flat setup t (cycle t).state
     given zero = record { undriven = (sources 0).undriven; clock = (sources 0).clock; inputs = (sources 0).inputs }
     given (suc t) = record { undriven = (sources (suc t)).undriven; clock = (sources (suc t)).clock; inputs = (sources (suc t)).inputs }
 
-    cells : (t : ℕ) (c : FlatCell) → Contains flat.cells c → (cycle t).state c.output ≡ f t (old_of (one.constant false) (λ t. (cycle t).state) t) c (cycle t).state
+    cells : (t : ℕ) (c : FlatCell) → Contains flat.cells c
+        → (cycle t).state c.output ≡ f t (old_of (one.constant false) (λ t. (cycle t).state) t) c (cycle t).state
     cells zero c h = (solved 0 none (sources_of 0)).cells c h
     cells (suc t) c h = (solved (suc t) (cycle t).state (sources_of (suc t))).cells c h

@@ -18,10 +18,12 @@ use Rattle.model_laws.proofs.Ranks.{by_rank}
 pub on_wires-cong : {X : Type 0} (constant : Bool → X) (s t : ℕ → X) (ws : List Wire) → ((b : ℕ) → Contains ws (Bit b) → s b ≡ t b)
     → map (on_wire constant s) ws ≡ map (on_wire constant t) ws
 on_wires-cong constant s t [] same = refl
-on_wires-cong constant s t (Const b ∷ ws) same = ap (λ rest. constant b ∷ rest) (on_wires-cong constant s t ws (λ a h. same a (Contains-later (Const b) (Bit a) ws h)))
+on_wires-cong constant s t (Const b ∷ ws) same =
+    ap (λ rest. constant b ∷ rest) (on_wires-cong constant s t ws (λ a h. same a (Contains-later (Const b) (Bit a) ws h)))
 on_wires-cong constant s t (Bit n ∷ ws) same =
     let head : s n ≡ t n = same n (Contains-here (Bit n) ws) in
-    let tail : map (on_wire constant s) ws ≡ map (on_wire constant t) ws = on_wires-cong constant s t ws (λ a h. same a (Contains-later (Bit n) (Bit a) ws h)) in
+    let tail : map (on_wire constant s) ws ≡ map (on_wire constant t) ws =
+    on_wires-cong constant s t ws (λ a h. same a (Contains-later (Bit n) (Bit a) ws h)) in
     cc
 
 pub one_settled : (flat : Flat) (rank : ℕ → ℕ) (v w : Valuation) → IsRanked flat rank → IsSettled flat v → IsSettled flat w
@@ -63,7 +65,8 @@ one_forced_row flat rank p q ranked forced other leaves = by_rank flat rank (λ 
         (subst (λ ps. IsForced c.kind ps (q c.output)) (sym (on_wires-cong part_of p q (wires_of c) same)) (other.cells c h))
 
 -- what is forced allows what is computed
-pub forced-allows : (kind : Kind) (ps : List Part) (p : Part) (inputs : List Bool) → IsForced kind ps p → AllowsAll ps inputs → Allows p (output_of kind inputs)
+pub forced-allows : (kind : Kind) (ps : List Part) (p : Part) (inputs : List Bool) → IsForced kind ps p → AllowsAll ps inputs
+    → Allows p (output_of kind inputs)
 forced-allows kind ps Zero inputs f allowed = f inputs allowed
 forced-allows kind ps One inputs f allowed = f inputs allowed
 forced-allows kind ps Vary inputs f allowed = tt
@@ -72,10 +75,12 @@ pub part_of-allows : (b : Bool) → Allows (part_of b) b
 part_of-allows false = refl
 part_of-allows true = refl
 
-pub wires-allow : (row : Row) (v : Valuation) (ws : List Wire) → ((b : ℕ) → Contains ws (Bit b) → Allows (row b) (v b)) → AllowsAll (map (wire_part row) ws) (map (wire_value v) ws)
+pub wires-allow : (row : Row) (v : Valuation) (ws : List Wire) → ((b : ℕ) → Contains ws (Bit b) → Allows (row b) (v b))
+    → AllowsAll (map (wire_part row) ws) (map (wire_value v) ws)
 wires-allow row v [] allows = tt
 wires-allow row v (Const b ∷ ws) allows = (part_of-allows b, wires-allow row v ws (λ a h. allows a (Contains-later (Const b) (Bit a) ws h)))
-wires-allow row v (Bit n ∷ ws) allows = (allows n (Contains-here (Bit n) ws), wires-allow row v ws (λ a h. allows a (Contains-later (Bit n) (Bit a) ws h)))
+wires-allow row v (Bit n ∷ ws) allows =
+    (allows n (Contains-here (Bit n) ws), wires-allow row v ws (λ a h. allows a (Contains-later (Bit n) (Bit a) ws h)))
 
 pub wire-allows : (row : Row) (v : Valuation) (w : Wire) → ((b : ℕ) → Allows (row b) (v b)) → Allows (wire_part row w) (wire_value v w)
 wire-allows row v (Const b) allows = part_of-allows b
@@ -84,8 +89,10 @@ wire-allows row v (Bit n) allows = allows n
 -- a forced row allows a settled valuation where it allows the leaves
 pub row-allows : (flat : Flat) (rank : ℕ → ℕ) (row : Row) (v : Valuation) → IsRanked flat rank → IsForcedRow flat row → IsSettled flat v
     → ((b : ℕ) → (IsCellBit flat b → ⊥) → Allows (row b) (v b)) → (b : ℕ) → Allows (row b) (v b)
-row-allows flat rank row v ranked forced settled leaves = by_rank flat rank (λ b. Allows (row b) (v b)) ranked leaves (record { cells = cells })
+row-allows flat rank row v ranked forced settled leaves =
+    by_rank flat rank (λ b. Allows (row b) (v b)) ranked leaves (record { cells = cells })
   where
-    cells : (c : FlatCell) → Contains flat.cells c → ((b : ℕ) → Contains (wires_of c) (Bit b) → Allows (row b) (v b)) → Allows (row c.output) (v c.output)
+    cells : (c : FlatCell) → Contains flat.cells c → ((b : ℕ) → Contains (wires_of c) (Bit b) → Allows (row b) (v b))
+        → Allows (row c.output) (v c.output)
     cells c h allows = subst (Allows (row c.output)) (sym (settled.cells c h))
         (forced-allows c.kind (cell_parts row c) (row c.output) (map (wire_value v) (wires_of c)) (forced.cells c h) (wires-allow row v (wires_of c) allows))

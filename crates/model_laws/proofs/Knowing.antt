@@ -23,20 +23,25 @@ IsAnyStart start = Unit {0}
 pub any_starts : (flat : Flat) (setup : Setup) → AreStarts IsAnyStart flat setup
 any_starts flat setup = record { flops = λ f h. tt; inputs = λ p h t. tt; words = λ w h k. tt }
 
-known_starts : (choice : Choice) (table : LabelTable) (t : ℕ) (start : Start) → Allows (start_state parts table t start) (start_state (values choice) table t start)
+known_starts : (choice : Choice) (table : LabelTable) (t : ℕ) (start : Start)
+    → Allows (start_state parts table t start) (start_state (values choice) table t start)
 known_starts choice table t (Public b) = part_of-allows b
 known_starts choice table t (Label l) = tt
 known_starts choice table t (Fresh j) = tt
 
-pub known_run : (flat : Flat) (setup : Setup) (cycles : ℕ) (rank : ℕ → ℕ) (row : ℕ → Row) (word : ℕ → ℕ → Row) → IsChecked flat setup cycles rank row word
+pub known_run : (flat : Flat) (setup : Setup) (cycles : ℕ) (rank : ℕ → ℕ) (row : ℕ → Row) (word : ℕ → ℕ → Row)
+    → IsChecked flat setup cycles rank row word
     → (choice : Choice) (v : ℕ → Valuation) (m : ℕ → Memory) → IsRun flat setup cycles choice v m
     → (t : ℕ) → t < cycles → IsLinked flat (row t) (v t) (word t) (m t) Allows Allows
 known_run flat setup cycles rank row word checked choice v m run =
-    carried-linked parts (values choice) IsAnyStart flat setup cycles (λ t. ones (row t)) v row v word m (λ _. Allows) (λ _. Allows) checked.bound (any_starts flat setup)
+    carried-linked parts (values choice) IsAnyStart flat setup cycles (λ t. ones (row t)) v row v word m (λ _. Allows)
+    (λ _. Allows) checked.bound (any_starts flat setup)
     (record {
       constants = λ t b. part_of-allows b;
       starts = λ t below start any. known_starts choice setup.table t start;
-      settles = λ t below lower leaves. row-allows flat rank (row t) (v t) checked.ranked (checked.known.forced t below) (run.settled t below) leaves;
+      settles =
+          λ t below lower leaves. row-allows flat rank (row t) (v t) checked.ranked (checked.known.forced t below)
+          (run.settled t below) leaves;
       passes = λ t x y h. h;
       stays = λ t x y h. h;
       requests = λ t below allows. known_requests flat setup (row t) (v t) checked.has_controls (checked.controls t (omega arith)) allows;
@@ -51,4 +56,5 @@ known_law flat setup cycles rank row word checked choice v m run t below =
 pub requests_law : RequestsLaw
 unfolding RequestsLaw
 requests_law flat setup cycles rank row word checked choice v m run t below =
-    known_requests flat setup (row t) (v t) checked.has_controls (checked.controls t below) (known_run flat setup cycles rank row word checked choice v m run t below).bits
+    known_requests flat setup (row t) (v t) checked.has_controls (checked.controls t below)
+    (known_run flat setup cycles rank row word checked choice v m run t below).bits

@@ -41,7 +41,8 @@ joined_of_flat_map f (x ∷ xs) y h = go (Contains-append_cases (f x) (flat_map 
     go (inl i) rest = record { source = x; listed = Contains-here x xs; member = i }
     go (inr i) rest = let r = rest i in record { source = r.source; listed = Contains-later x r.source xs r.listed; member = r.member }
 
-pub Contains-flat_map : {X Y : Type 0} (f : X → List Y) (xs : List X) (x : X) (y : Y) → Contains xs x → Contains (f x) y → Contains (flat_map f xs) y
+pub Contains-flat_map : {X Y : Type 0} (f : X → List Y) (xs : List X) (x : X) (y : Y) → Contains xs x → Contains (f x) y
+    → Contains (flat_map f xs) y
 Contains-flat_map f [] x y h i = absurd (Contains-none x h)
 Contains-flat_map f (z ∷ xs) x y h i = go (Contains-cases z x xs h) (λ j. Contains-flat_map f xs x y j i)
   where
@@ -50,9 +51,11 @@ Contains-flat_map f (z ∷ xs) x y h i = go (Contains-cases z x xs h) (λ j. Con
     go (inr j) rest = Contains-append_right (f z) (flat_map f xs) y (rest j)
 
 -- a list has a member of which P holds, or none, where P is decided of members
-pub some_member_or_none : {X : Type 0} (P : X → Type 0) (xs : List X) → ((x : X) → Contains xs x → P x ⊎ (P x → ⊥)) → IsSome P xs ⊎ ((x : X) → Contains xs x → P x → ⊥)
+pub some_member_or_none : {X : Type 0} (P : X → Type 0) (xs : List X) → ((x : X) → Contains xs x → P x ⊎ (P x → ⊥))
+    → IsSome P xs ⊎ ((x : X) → Contains xs x → P x → ⊥)
 some_member_or_none P [] decide = inr (λ x h p. Contains-none x h)
-some_member_or_none P (x ∷ xs) decide = go (decide x (Contains-here x xs)) (some_member_or_none P xs (λ y h. decide y (Contains-later x y xs h)))
+some_member_or_none P (x ∷ xs) decide =
+    go (decide x (Contains-here x xs)) (some_member_or_none P xs (λ y h. decide y (Contains-later x y xs h)))
   where
     go : P x ⊎ (P x → ⊥) → IsSome P xs ⊎ ((y : _) → Contains xs y → P y → ⊥) → IsSome P (x ∷ xs) ⊎ ((y : _) → Contains (x ∷ xs) y → P y → ⊥)
     go (inl p) rest = inl (record { member = x; listed = Contains-here x xs; holds = p })
@@ -63,11 +66,13 @@ some_member_or_none P (x ∷ xs) decide = go (decide x (Contains-here x xs)) (so
         later y p (inl e) = n (subst P (sym e) p)
         later y p (inr i) = none y i p
 
-pub some_or_none : {X : Type 0} (P : X → Type 0) → ((x : X) → P x ⊎ (P x → ⊥)) → (xs : List X) → IsSome P xs ⊎ ((x : X) → Contains xs x → P x → ⊥)
+pub some_or_none : {X : Type 0} (P : X → Type 0) → ((x : X) → P x ⊎ (P x → ⊥)) → (xs : List X)
+    → IsSome P xs ⊎ ((x : X) → Contains xs x → P x → ⊥)
 some_or_none P decide xs = some_member_or_none P xs (λ x h. decide x)
 
 -- P holds of every member of a list, or not of some
-pub all_or_not : {X : Type 0} (P : X → Type 0) → ((x : X) → P x ⊎ (P x → ⊥)) → (xs : List X) → ((x : X) → Contains xs x → P x) ⊎ (((x : X) → Contains xs x → P x) → ⊥)
+pub all_or_not : {X : Type 0} (P : X → Type 0) → ((x : X) → P x ⊎ (P x → ⊥)) → (xs : List X)
+    → ((x : X) → Contains xs x → P x) ⊎ (((x : X) → Contains xs x → P x) → ⊥)
 all_or_not P decide [] = inl (λ x h. absurd (Contains-none x h))
 all_or_not P decide (x ∷ xs) = go (decide x) (all_or_not P decide xs)
   where

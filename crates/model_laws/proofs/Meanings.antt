@@ -56,7 +56,8 @@ KeepsNow row (suc t) old now c = (w : Wire) → Contains (wires_of c) w → IsSt
 
 keeps_or_not : (row : ℕ → Row) (t : ℕ) (old now : ℕ → Root) (c : FlatCell) → KeepsNow row t old now c ⊎ (KeepsNow row t old now c → ⊥)
 keeps_or_not row zero old now c = inr (λ h. h)
-keeps_or_not row (suc t) old now c = all_or_not (λ w. IsSteady (row t) (row (suc t)) old now w) (λ w. steady_or_not (row t) (row (suc t)) old now w) (wires_of c)
+keeps_or_not row (suc t) old now c =
+    all_or_not (λ w. IsSteady (row t) (row (suc t)) old now w) (λ w. steady_or_not (row t) (row (suc t)) old now w) (wires_of c)
 
 -- one of three roots, by two decisions
 abbrev pick : {A B : Type 0} → A ⊎ (A → ⊥) → B ⊎ (B → ⊥) → Root → Root → Root
@@ -67,14 +68,16 @@ pick (inl varies) (inr n) old own = own
 abbrev cell_root : (ℕ → Row) → ℕ → (ℕ → Root) → FlatCell → (ℕ → Root) → Root
 cell_root row t old c now = pick (vary_or_not (row t c.output)) (keeps_or_not row t old now c) (old c.output) (output t c.output)
 
-keeps_also : (row : ℕ → Row) (t : ℕ) (old now other : ℕ → Root) (c : FlatCell) → ((b : ℕ) → Contains (wires_of c) (Bit b) → now b ≡ other b) → KeepsNow row t old now c → KeepsNow row t old other c
+keeps_also : (row : ℕ → Row) (t : ℕ) (old now other : ℕ → Root) (c : FlatCell) → ((b : ℕ) → Contains (wires_of c) (Bit b) → now b ≡ other b)
+    → KeepsNow row t old now c → KeepsNow row t old other c
 keeps_also row zero old now other c same kept = kept
 keeps_also row (suc t) old now other c same kept = λ w h. record {
   part = (kept w h).part;
   root = (kept w h).root ∙ wire_root-cong now other w (λ b e. same b (subst (Contains (wires_of c)) e h));
 }
 
-pick_same : {A B C : Type 0} (v : A ⊎ (A → ⊥)) (k : B ⊎ (B → ⊥)) (l : C ⊎ (C → ⊥)) (old own : Root) → (B → C) → (C → B) → pick v k old own ≡ pick v l old own
+pick_same : {A B C : Type 0} (v : A ⊎ (A → ⊥)) (k : B ⊎ (B → ⊥)) (l : C ⊎ (C → ⊥)) (old own : Root) → (B → C) → (C → B)
+    → pick v k old own ≡ pick v l old own
 pick_same (inr known) k l old own there back = refl
 pick_same (inl varies) (inl b) (inl c) old own there back = refl
 pick_same (inl varies) (inr b) (inr c) old own there back = refl
@@ -83,7 +86,9 @@ pick_same (inl varies) (inr b) (inl c) old own there back = absurd (b (back c))
 
 root_reads : (row : ℕ → Row) (t : ℕ) (old : ℕ → Root) → ReadsWires (cell_root row t old)
 root_reads row t old = record {
-  reads = λ c now other same. pick_same (vary_or_not (row t c.output)) (keeps_or_not row t old now c) (keeps_or_not row t old other c) (old c.output) (output t c.output)
+  reads =
+      λ c now other same. pick_same (vary_or_not (row t c.output)) (keeps_or_not row t old now c) (keeps_or_not row t old other c)
+      (old c.output) (output t c.output)
       (keeps_also row t old now other c same) (keeps_also row t old other now c (λ b h. sym (same b h)));
 }
 
@@ -106,23 +111,31 @@ pick_own (inr n) k old own a lost = absurd (n a)
 pick_own (inl v) (inl k) old own a lost = absurd (lost k)
 pick_own (inl v) (inr n) old own a lost = refl
 
-keeps_now : (row : ℕ → Row) (root : ℕ → ℕ → Root) (t : ℕ) (c : FlatCell) → IsKept row root t c → KeepsNow row t (old_of nothing root t) (root t) c
+keeps_now : (row : ℕ → Row) (root : ℕ → ℕ → Root) (t : ℕ) (c : FlatCell) → IsKept row root t c
+    → KeepsNow row t (old_of nothing root t) (root t) c
 keeps_now row root zero c kept = kept
 keeps_now row root (suc t) c kept = kept
 
-kept_before : (row : ℕ → Row) (root : ℕ → ℕ → Root) (t : ℕ) (c : FlatCell) → KeepsNow row t (old_of nothing root t) (root t) c → IsKept row root t c
+kept_before : (row : ℕ → Row) (root : ℕ → ℕ → Root) (t : ℕ) (c : FlatCell) → KeepsNow row t (old_of nothing root t) (root t) c
+    → IsKept row root t c
 kept_before row root zero c kept = kept
 kept_before row root (suc t) c kept = kept
 
-old_before : (row : ℕ → Row) (root : ℕ → ℕ → Root) (t : ℕ) (c : FlatCell) → IsKept row root t c → old_of nothing root t c.output ≡ root (before t) c.output
+old_before : (row : ℕ → Row) (root : ℕ → ℕ → Root) (t : ℕ) (c : FlatCell) → IsKept row root t c
+    → old_of nothing root t c.output ≡ root (before t) c.output
 old_before row root zero c kept = absurd kept
 old_before row root (suc t) c kept = refl
 
-cell_rooted : (row : ℕ → Row) (root : ℕ → ℕ → Root) (t : ℕ) (c : FlatCell) → root t c.output ≡ cell_root row t (old_of nothing root t) c (root t) → HasCellRoot row root t c
+cell_rooted : (row : ℕ → Row) (root : ℕ → ℕ → Root) (t : ℕ) (c : FlatCell)
+    → root t c.output ≡ cell_root row t (old_of nothing root t) c (root t) → HasCellRoot row root t c
 cell_rooted row root t c is = record {
   known = λ n. is ∙ pick_known (vary_or_not (row t c.output)) (keeps_or_not row t (old_of nothing root t) (root t) c) _ _ n;
-  kept = λ v k. is ∙ pick_kept (vary_or_not (row t c.output)) (keeps_or_not row t (old_of nothing root t) (root t) c) _ _ v (keeps_now row root t c k) ∙ old_before row root t c k;
-  own = λ v n. is ∙ pick_own (vary_or_not (row t c.output)) (keeps_or_not row t (old_of nothing root t) (root t) c) _ _ v (λ k. n (kept_before row root t c k));
+  kept =
+      λ v k. is ∙ pick_kept (vary_or_not (row t c.output))
+      (keeps_or_not row t (old_of nothing root t) (root t) c) _ _ v (keeps_now row root t c k) ∙ old_before row root t c k;
+  own =
+      λ v n. is ∙ pick_own (vary_or_not (row t c.output))
+      (keeps_or_not row t (old_of nothing root t) (root t) c) _ _ v (λ k. n (kept_before row root t c k));
 }
 
 -- what is calm between two cycles
@@ -132,7 +145,8 @@ pub record HasCalm (flat : Flat) (old now : Row) : Type 0 where
 
 calm_exists : (flat : Flat) (rank : ℕ → ℕ) → IsRanked flat rank → HasOneDriver flat → (old now : Row) → HasCalm flat old now
 calm_exists flat rank ranked driven old now =
-    let s : HasStates flat forced_part (λ b. both (old b) (now b)) = states_exist flat rank forced_part (λ b. both (old b) (now b)) ranked driven forced_reads in
+    let s : HasStates flat forced_part (λ b. both (old b) (now b)) =
+    states_exist flat rank forced_part (λ b. both (old b) (now b)) ranked driven forced_reads in
     record { calm = s.state; still = record { leaves = s.leaves; forced = record { cells = λ c h. forced_at s.state c (s.cells c h) } } }
 
 pub meaning_law : MeaningLaw
@@ -172,7 +186,8 @@ meaning_law flat setup cycles rank ranked bound driven range = record {
     known = known_exists flat setup rank ranked bound driven
 
     is_known : IsKnown flat setup cycles known.state known.word
-    is_known = record { forced = λ t below. record { cells = λ c h. forced_at (known.state t) c (known.cells t c h) }; carried = known.carried cycles }
+    is_known =
+        record { forced = λ t below. record { cells = λ c h. forced_at (known.state t) c (known.cells t c h) }; carried = known.carried cycles }
 
     rooted : HasCarried roots flat setup (cell_root known.state) (λ t root. ones (known.state t))
     rooted = roots_exist flat setup rank ranked bound driven known.state

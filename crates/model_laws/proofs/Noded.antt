@@ -36,7 +36,8 @@ use Rattle.model_laws.specs.Laws.{IsChecked, UnrolledLaw}
 bits_in_below : (n : ℕ) (ws : List Wire) → ((w : Wire) → Contains ws w → IsWireBelow n w) → (b : ℕ) → Contains (bits_in ws) b → b < n
 bits_in_below n [] below b h = absurd (Contains-none b h)
 bits_in_below n (Const x ∷ ws) below b h = bits_in_below n ws (λ w i. below w (Contains-later (Const x) w ws i)) b h
-bits_in_below n (Bit a ∷ ws) below b h = go (Contains-cases a b (bits_in ws) h) (λ i. bits_in_below n ws (λ w j. below w (Contains-later (Bit a) w ws j)) b i)
+bits_in_below n (Bit a ∷ ws) below b h =
+    go (Contains-cases a b (bits_in ws) h) (λ i. bits_in_below n ws (λ w j. below w (Contains-later (Bit a) w ws j)) b i)
   where
     go : (a ≡ b) ⊎ Contains (bits_in ws) b → (Contains (bits_in ws) b → b < n) → b < n
     go (inl e) rest = subst (λ x. x < n) e (below (Bit a) (Contains-here (Bit a) ws))
@@ -53,7 +54,8 @@ input_below flat range b h = go (joined_of_flat_map (λ (p : FlatPort). cond p.i
     go r = at_port r.source r.listed r.source.input r.member
 
 -- an unknown bit is a bit of the netlist
-unknown_below : (flat : Flat) (setup : Setup) (cycles : ℕ) (rank : ℕ → ℕ) (row : ℕ → Row) (word : ℕ → ℕ → Row) → IsChecked flat setup cycles rank row word → IsInRange flat
+unknown_below : (flat : Flat) (setup : Setup) (cycles : ℕ) (rank : ℕ → ℕ) (row : ℕ → Row) (word : ℕ → ℕ → Row)
+    → IsChecked flat setup cycles rank row word → IsInRange flat
     → (t : ℕ) → t < cycles → (b : ℕ) → row t b ≡ Vary → b < flat.bits
 unknown_below flat setup cycles rank row word checked range t below =
     by_driver flat (λ b. row t b ≡ Vary → b < flat.bits) leaves (λ c listed varies. range.outputs c listed)
@@ -62,7 +64,8 @@ unknown_below flat setup cycles rank row word checked range t below =
     leaves b none varies = go (flop_bit_or_not flat b) (input_bit_or_not flat b)
       where
         go : IsFlopBit flat b ⊎ (IsFlopBit flat b → ⊥) → IsInputBit flat b ⊎ (IsInputBit flat b → ⊥) → b < flat.bits
-        go (inl h) other = let s = some_from_any (λ (f : FlatFlop). f.output ≡ b) flat.flops h in subst (λ x. x < flat.bits) s.holds (range.flops s.member s.listed)
+        go (inl h) other =
+            let s = some_from_any (λ (f : FlatFlop). f.output ≡ b) flat.flops h in subst (λ x. x < flat.bits) s.holds (range.flops s.member s.listed)
         go (inr no_flop) (inl h) = input_below flat range b h
         go (inr no_flop) (inr no_input) =
             absurd (let e = (checked.known.carried.given t below).undriven b (record { no_input = no_input; no_flop = no_flop; no_cell = none }) in cc)
@@ -74,7 +77,8 @@ IsLeafNode flat index root t r (Label l) = r ≡ label l
 IsLeafNode flat index root t r (Copy j) = (s : ℕ) × (c : ℕ) × (s < t) × (c < flat.bits) × (j ≡ index s c) × (r ≢ nothing) × (r ≡ root s c)
 IsLeafNode flat index root t r (Gate kind parts operands) = ⊥
 
-leaf_node_later : (flat : Flat) (index : ℕ → ℕ → ℕ) (root : ℕ → ℕ → Root) (t : ℕ) (r : Root) (node : Node) → IsLeafNode flat index root t r node → IsLeafNode flat index root (suc t) r node
+leaf_node_later : (flat : Flat) (index : ℕ → ℕ → ℕ) (root : ℕ → ℕ → Root) (t : ℕ) (r : Root) (node : Node)
+    → IsLeafNode flat index root t r node → IsLeafNode flat index root (suc t) r node
 leaf_node_later flat index root t r Nothing h = h
 leaf_node_later flat index root t r (Label l) h = h
 leaf_node_later flat index root t r (Copy j) (s, c, lt, inside, is, some, same) = (s, c, omega arith, inside, is, some, same)
@@ -90,7 +94,8 @@ node_starts flat index root table t (Fresh j) = refl
 record IsSource (flat : Flat) (index : ℕ → ℕ → ℕ) (root : ℕ → ℕ → Root) (t : ℕ) (r : Root) (node : Node) : Type 0 where
   later : IsLeafNode flat index root (suc t) r node
 
-copy_source : (flat : Flat) (index : ℕ → ℕ → ℕ) (row : ℕ → Row) (root : ℕ → ℕ → Root) (t b : ℕ) → IsNothingWhereKnown (row t b) (root t b) → (row t b ≡ Vary → b < flat.bits)
+copy_source : (flat : Flat) (index : ℕ → ℕ → ℕ) (row : ℕ → Row) (root : ℕ → ℕ → Root) (t b : ℕ) → IsNothingWhereKnown (row t b) (root t b)
+    → (row t b ≡ Vary → b < flat.bits)
     → IsSource flat index root t (root t b) (copy_of (row t b) (index t b))
 copy_source flat index row root t b known inside = record { later = go (row t b) refl }
   where
@@ -100,11 +105,13 @@ copy_source flat index row root t b known inside = record { later = go (row t b)
     go Vary e = (t, b, omega arith, inside e, refl, (λ f. known.known_if f e), refl)
 
 -- what holds of the nodes of a cycle
-record HasLeafNodes (flat : Flat) (index : ℕ → ℕ → ℕ) (root : ℕ → ℕ → Root) (t : ℕ) (rooted : ℕ → ℕ → Root) (node : ℕ → Node) (node_word : ℕ → ℕ → Node) : Type 0 where
+record HasLeafNodes (flat : Flat) (index : ℕ → ℕ → ℕ) (root : ℕ → ℕ → Root) (t : ℕ) (rooted : ℕ → ℕ → Root) (node : ℕ → Node)
+    (node_word : ℕ → ℕ → Node) : Type 0 where
   leaves : (b : ℕ) → (IsCellBit flat b → ⊥) → IsLeafNode flat index root t (root t b) (node b)
   words : (address k : ℕ) → IsLeafNode flat index root t (rooted address k) (node_word address k)
 
-leaf_nodes : (flat : Flat) (setup : Setup) (cycles : ℕ) (rank : ℕ → ℕ) (row : ℕ → Row) (word : ℕ → ℕ → Row) → IsChecked flat setup cycles rank row word → IsInRange flat
+leaf_nodes : (flat : Flat) (setup : Setup) (cycles : ℕ) (rank : ℕ → ℕ) (row : ℕ → Row) (word : ℕ → ℕ → Row)
+    → IsChecked flat setup cycles rank row word → IsInRange flat
     → (root : ℕ → ℕ → Root) (rooted : ℕ → ℕ → ℕ → Root) → IsRooted flat setup cycles row root rooted
     → (index : ℕ → ℕ → ℕ) (node : ℕ → ℕ → Node) (node_word : ℕ → ℕ → ℕ → Node) → IsUnrolled flat setup cycles index row root node node_word
     → (t : ℕ) → t < cycles → HasLeafNodes flat index root t (rooted t) (node t) (node_word t)
@@ -119,31 +126,42 @@ leaf_nodes flat setup cycles rank row word checked range root rooted is_rooted i
     next (leaf_nodes flat setup cycles rank row word checked range root rooted is_rooted index node node_word unrolled t (omega arith))
   where
     source : (b : ℕ) → IsSource flat index root t (root t b) (copy_of (row t b) (index t b))
-    source b = copy_source flat index row root t b ((nothing_where_known flat setup cycles rank row word checked root rooted is_rooted t (omega arith)).bits b)
+    source b =
+        copy_source flat index row root t b ((nothing_where_known flat setup cycles rank row word checked root rooted is_rooted t (omega arith)).bits b)
         (unknown_below flat setup cycles rank row word checked range t (omega arith) b)
 
-    next : HasLeafNodes flat index root t (rooted t) (node t) (node_word t) → HasLeafNodes flat index root (suc t) (rooted (suc t)) (node (suc t)) (node_word (suc t))
+    next : HasLeafNodes flat index root t (rooted t) (node t) (node_word t)
+        → HasLeafNodes flat index root (suc t) (rooted (suc t)) (node (suc t)) (node_word (suc t))
     next old = record {
-      leaves = next-linked roots starting_nodes IsAnyStart flat setup (suc t) (ones (row t)) (ones (row t)) (root t) (root (suc t)) (λ b. copy_of (row t b) (index t b)) (node (suc t))
+      leaves =
+          next-linked roots starting_nodes IsAnyStart flat setup (suc t) (ones (row t)) (ones (row t)) (root t) (root (suc t))
+          (λ b. copy_of (row t b) (index t b)) (node (suc t))
           (rooted t) (rooted (suc t)) (node_word t) (node_word (suc t))
           (IsLeafNode flat index root (suc t)) (IsSource flat index root t) (IsLeafNode flat index root t)
-          (λ b. refl) (λ start any. node_starts flat index root setup.table (suc t) start) (λ r n h. h.later) (λ r n h. leaf_node_later flat index root t r n h)
+          (λ b. refl) (λ start any. node_starts flat index root setup.table (suc t) start) (λ r n h. h.later)
+          (λ r n h. leaf_node_later flat index root t r n h)
           checked.bound (any_starts flat setup) (λ mem h. same_requests (ones (row t)) (ones (row t)) refl mem)
-          (is_rooted.carried.given (suc t) below) (unrolled.given (suc t) below) (is_rooted.carried.next t below) (unrolled.next t below) source old.words;
-      words = λ address k. along (IsLeafNode flat index root (suc t)) ((is_rooted.carried.next t below).words address k) ((unrolled.next t below).words address k)
+          (is_rooted.carried.given (suc t) below) (unrolled.given (suc t) below) (is_rooted.carried.next t below)
+          (unrolled.next t below) source old.words;
+      words =
+          λ address k. along (IsLeafNode flat index root (suc t)) ((is_rooted.carried.next t below).words address k)
+          ((unrolled.next t below).words address k)
           (stored_word-linked (IsLeafNode flat index root (suc t)) (IsSource flat index root t) roots starting_nodes (ones (row t)) (ones (row t)) (root t) (λ b. copy_of (row t b) (index t b))
           (λ b. refl) (λ r n h. h.later) source setup.memories (λ mem h. same_requests (ones (row t)) (ones (row t)) refl mem)
-          address k (rooted t address k) (node_word t address k) (leaf_node_later flat index root t (rooted t address k) (node_word t address k) (old.words address k)));
+          address k (rooted t address k) (node_word t address k)
+          (leaf_node_later flat index root t (rooted t address k) (node_word t address k) (old.words address k)));
     }
 
 -- a leaf's node is a node of its bit
-leaf_is_node : (flat : Flat) (index : ℕ → ℕ → ℕ) (row : ℕ → Row) (root : ℕ → ℕ → Root) (t b : ℕ) (node : Node) → IsLeafNode flat index root t (root t b) node → IsNodeOf flat index row root t b node
+leaf_is_node : (flat : Flat) (index : ℕ → ℕ → ℕ) (row : ℕ → Row) (root : ℕ → ℕ → Root) (t b : ℕ) (node : Node)
+    → IsLeafNode flat index root t (root t b) node → IsNodeOf flat index row root t b node
 leaf_is_node flat index row root t b Nothing h = h
 leaf_is_node flat index row root t b (Label l) h = h
 leaf_is_node flat index row root t b (Copy j) h = h
 leaf_is_node flat index row root t b (Gate kind parts operands) h = absurd h
 
-gate_is_node : (flat : Flat) (index : ℕ → ℕ → ℕ) (row : ℕ → Row) (root : ℕ → ℕ → Root) (t : ℕ) (c : FlatCell) → Contains flat.cells c → root t c.output ≡ output t c.output
+gate_is_node : (flat : Flat) (index : ℕ → ℕ → ℕ) (row : ℕ → Row) (root : ℕ → ℕ → Root) (t : ℕ) (c : FlatCell) → Contains flat.cells c
+    → root t c.output ≡ output t c.output
     → (node : Node) → IsOwnGate (index t) (row t) c node → IsNodeOf flat index row root t c.output node
 gate_is_node flat index row root t c listed own Nothing h = absurd h
 gate_is_node flat index row root t c listed own (Label l) h = absurd h
@@ -160,7 +178,8 @@ unrolled_law flat setup cycles rank row word checked range root rooted is_rooted
   apart = apart;
 }
   where
-    cell : (t : ℕ) → t < cycles → (c : FlatCell) → Contains flat.cells c → IsNodeOf flat index row root t c.output (nodes (index t c.output))
+    cell : (t : ℕ) → t < cycles → (c : FlatCell) → Contains flat.cells c
+        → IsNodeOf flat index row root t c.output (nodes (index t c.output))
     cell t below c listed = go (vary_or_not (row t c.output)) (kept_or_not row root t c)
       where
         has : HasCellNode index row root t c (nodes (index t c.output))
@@ -172,8 +191,10 @@ unrolled_law flat setup cycles rank row word checked range root rooted is_rooted
         known : IsNothingWhereKnown (row t c.output) (root t c.output)
         known = (nothing_where_known flat setup cycles rank row word checked root rooted is_rooted t below).bits c.output
 
-        go : (row t c.output ≡ Vary) ⊎ (row t c.output ≢ Vary) → IsKept row root t c ⊎ (IsKept row root t c → ⊥) → IsNodeOf flat index row root t c.output (nodes (index t c.output))
+        go : (row t c.output ≡ Vary) ⊎ (row t c.output ≢ Vary) → IsKept row root t c ⊎ (IsKept row root t c → ⊥)
+            → IsNodeOf flat index row root t c.output (nodes (index t c.output))
         go (inr n) kept = subst (IsNodeOf flat index row root t c.output) (sym (has.known n)) (root_is.known n)
         go (inl varies) (inl kept) = subst (IsNodeOf flat index row root t c.output) (sym (has.kept varies kept))
             (before t, c.output, before_earlier row root t c kept, range.outputs c listed, refl, (λ e. known.known_if e varies), root_is.kept varies kept)
-        go (inl varies) (inr own) = gate_is_node flat index row root t c listed (root_is.own varies own) (nodes (index t c.output)) (has.own varies own)
+        go (inl varies) (inr own) =
+            gate_is_node flat index row root t c listed (root_is.own varies own) (nodes (index t c.output)) (has.own varies own)

@@ -31,7 +31,8 @@ pub record IsPassedOn (flat : Flat) (P : ℕ → Type 0) : Type 0 where
   pub cells : (c : FlatCell) → Contains flat.cells c → ((b : ℕ) → Contains (wires_of c) (Bit b) → P b) → P c.output
 
 -- what holds of the bits that no cell drives, and goes from what a cell reads to its output, holds of every bit
-pub by_rank : (flat : Flat) (rank : ℕ → ℕ) (P : ℕ → Type 0) → IsRanked flat rank → ((b : ℕ) → (IsCellBit flat b → ⊥) → P b) → IsPassedOn flat P → (b : ℕ) → P b
+pub by_rank : (flat : Flat) (rank : ℕ → ℕ) (P : ℕ → Type 0) → IsRanked flat rank → ((b : ℕ) → (IsCellBit flat b → ⊥) → P b)
+    → IsPassedOn flat P → (b : ℕ) → P b
 by_rank flat rank P ranked leaves passed b = below (suc (rank b)) b (omega arith)
   where
     below : (n : ℕ) (b : ℕ) → rank b < n → P b

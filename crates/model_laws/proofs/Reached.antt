@@ -12,18 +12,22 @@ use Rattle.coco_model.specs.Calm.{both}
 use Rattle.coco_model.specs.Reach.{Reach, Reaches, IsReach}
 use Rattle.model_laws.proofs.Forced.{one_forced_row}
 use Rattle.model_laws.proofs.Unique.{one_known_law}
-use Rattle.model_laws.proofs.Calms.{before_below}
+use Rattle.coco_model.proofs.Keepers.{before_below}
 use Rattle.model_laws.proofs.Ascending.{same_ascending}
 use Rattle.model_laws.specs.Laws.{OneKnownLaw, OneReachLaw, OneWideReachLaw}
 
 one_known : (flat : Flat) (setup : Setup) (cycles : ℕ) (rank : ℕ → ℕ) → IsRanked flat rank → IsBound flat setup
-    → (reach other : Reach) → (r : IsReach flat setup cycles reach) (s : IsReach flat setup cycles other) → (t : ℕ) → t < cycles → (b : ℕ) → r.row t b ≡ s.row t b
+    → (reach other : Reach) → (r : IsReach flat setup cycles reach) (s : IsReach flat setup cycles other) → (t : ℕ) → t < cycles → (b : ℕ)
+    → r.row t b ≡ s.row t b
 unfolding OneKnownLaw
-one_known flat setup cycles rank ranked bound reach other r s = one_known_law flat setup cycles rank ranked bound r.row s.row r.word s.word r.known s.known
+one_known flat setup cycles rank ranked bound reach other r s =
+    one_known_law flat setup cycles rank ranked bound r.row s.row r.word s.word r.known s.known
 
 one_calm : (flat : Flat) (setup : Setup) (cycles : ℕ) (rank : ℕ → ℕ) → IsRanked flat rank → IsBound flat setup
-    → (reach other : Reach) → (r : IsReach flat setup cycles reach) (s : IsReach flat setup cycles other) → (t : ℕ) → t < cycles → r.calm t ≡ s.calm t
-one_calm flat setup cycles rank ranked bound reach other r s t below = fun_ext (one_forced_row flat rank (r.calm t) (s.calm t) ranked (r.still t below).forced (s.still t below).forced leaves)
+    → (reach other : Reach) → (r : IsReach flat setup cycles reach) (s : IsReach flat setup cycles other) → (t : ℕ) → t < cycles
+    → r.calm t ≡ s.calm t
+one_calm flat setup cycles rank ranked bound reach other r s t below =
+    fun_ext (one_forced_row flat rank (r.calm t) (s.calm t) ranked (r.still t below).forced (s.still t below).forced leaves)
   where
     same : (t : ℕ) → t < cycles → (b : ℕ) → r.row t b ≡ s.row t b
     same = one_known flat setup cycles rank ranked bound reach other r s

@@ -25,7 +25,8 @@ use Rattle.model_laws.proofs.Forced.{wire-allows}
 use Rattle.model_laws.specs.Laws.{AreSameRequests}
 
 -- a known wire has the value that is known
-pub known_wire : (row : Row) (v : Valuation) (w : Wire) → Allows (wire_part row w) (wire_value v w) → wire_part row w ≢ Vary → wire_value (ones row) w ≡ wire_value v w
+pub known_wire : (row : Row) (v : Valuation) (w : Wire) → Allows (wire_part row w) (wire_value v w) → wire_part row w ≢ Vary
+    → wire_value (ones row) w ≡ wire_value v w
 known_wire row v (Const b) allows known = refl
 known_wire row v (Bit n) allows known = go (row n) (v n) allows known
   where
@@ -35,7 +36,8 @@ known_wire row v (Bit n) allows known = go (row n) (v n) allows known
     go Vary b allows known = absurd (known refl)
 
 -- a known wire that is 1 is known as 1
-pub known_one : (row : Row) (v : Valuation) (w : Wire) → Allows (wire_part row w) (wire_value v w) → wire_part row w ≢ Vary → wire_value v w ≡ true → wire_part row w ≡ One
+pub known_one : (row : Row) (v : Valuation) (w : Wire) → Allows (wire_part row w) (wire_value v w) → wire_part row w ≢ Vary
+    → wire_value v w ≡ true → wire_part row w ≡ One
 known_one row v w allows known is = go (wire_part row w) (wire_value v w) allows known is
   where
     go : (p : Part) (b : Bool) → Allows p b → p ≢ Vary → b ≡ true → p ≡ One
@@ -43,7 +45,8 @@ known_one row v w allows known is = go (wire_part row w) (wire_value v w) allows
     go Zero b allows known e = absurd cc
     go Vary b allows known e = absurd (known refl)
 
-control_known : (setup : Setup) (row : Row) → AreControlsKnown setup row → (w : Wire) (when : When) → IsControl setup w when → Applies setup row when → wire_part row w ≢ Vary
+control_known : (setup : Setup) (row : Row) → AreControlsKnown setup row → (w : Wire) (when : When) → IsControl setup w when
+    → Applies setup row when → wire_part row w ≢ Vary
 control_known setup row known w when control applies =
     let s = some_from_any (λ (c : ControlPlan). (c.wire ≡ w) × (c.when ≡ when)) setup.controls control in
     subst (λ x. wire_part row x ≢ Vary) s.holds.0 (known.each s.member s.listed (subst (Applies setup row) (sym s.holds.1) applies))
@@ -62,14 +65,16 @@ and_right : (a b : Bool) → (a && b) ≡ true → b ≡ true
 and_right true b e = e
 and_right false b e = absurd cc
 
-number_on-cong : (v w : Valuation) (ws : List Wire) → ((x : Wire) → Contains ws x → wire_value v x ≡ wire_value w x) → number_on v ws ≡ number_on w ws
+number_on-cong : (v w : Valuation) (ws : List Wire) → ((x : Wire) → Contains ws x → wire_value v x ≡ wire_value w x)
+    → number_on v ws ≡ number_on w ws
 number_on-cong v w [] same = refl
 number_on-cong v w (x ∷ ws) same =
     let head : wire_value v x ≡ wire_value w x = same x (Contains-here x ws) in
     let tail : number_on v ws ≡ number_on w ws = number_on-cong v w ws (λ y h. same y (Contains-later x y ws h)) in
     ap (λ b. cond b 1 0 + 2 * number_on v ws) head ∙ ap (λ n. cond (wire_value w x) 1 0 + 2 * n) tail
 
-pub known_requests : (flat : Flat) (setup : Setup) (row : Row) (v : Valuation) → HasControls flat setup → AreControlsKnown setup row → ((b : ℕ) → Allows (row b) (v b))
+pub known_requests : (flat : Flat) (setup : Setup) (row : Row) (v : Valuation) → HasControls flat setup → AreControlsKnown setup row
+    → ((b : ℕ) → Allows (row b) (v b))
     → (mem : MemPlan) → Contains setup.memories mem → AreSameRequests (ones row) v mem
 known_requests flat setup row v has known allows mem listed = record {
   read = and_same _ _ _ _ request_same (λ e. ap not (write_same e));
@@ -128,8 +133,11 @@ known_requests flat setup row v has known allows mem listed = record {
         → wire_value (ones row) (get_or mem.enables j (Const false)) ≡ wire_value v (get_or mem.enables j (Const false))
     enable_same j e f = go (cases_lt j (length mem.enables))
       where
-        go : (j < length mem.enables) ⊎ (length mem.enables ≤ j) → wire_value (ones row) (get_or mem.enables j (Const false)) ≡ wire_value v (get_or mem.enables j (Const false))
-        go (inl below) = same (get_or mem.enables j (Const false)) (control_known setup row known (get_or mem.enables j (Const false)) (Written place.place)
+        go : (j < length mem.enables) ⊎ (length mem.enables ≤ j)
+            → wire_value (ones row) (get_or mem.enables j (Const false)) ≡ wire_value v (get_or mem.enables j (Const false))
+        go (inl below) =
+            same (get_or mem.enables j (Const false))
+            (control_known setup row known (get_or mem.enables j (Const false)) (Written place.place)
             (controls.enables (get_or mem.enables j (Const false)) (Contains-get_or mem.enables j (Const false) below)) (written e f))
         go (inr past) = subst (λ w. wire_value (ones row) w ≡ wire_value v w) (sym (get_or_past mem.enables j (Const false) past)) refl
 

@@ -18,27 +18,33 @@ use Rattle.model_laws.specs.Laws.{OneReachLaw, OneWideReachLaw, SecureLaw, Widel
 abbrev shown : (ℕ → Valuation) → ℕ → List ℕ → List Bool
 shown v t leaves = flat_map (λ l. v (before t) l ∷ v t l ∷ []) leaves
 
-observation-same : (reach other : Reach) (v : ℕ → Valuation) (probes : List Probe) → ((p : Probe) → Contains probes p → reach p.cycle p.bit ≡ other p.cycle p.bit)
+observation-same : (reach other : Reach) (v : ℕ → Valuation) (probes : List Probe)
+    → ((p : Probe) → Contains probes p → reach p.cycle p.bit ≡ other p.cycle p.bit)
     → observation reach v probes ≡ observation other v probes
 observation-same reach other v [] same = refl
 observation-same reach other v (p ∷ probes) same =
     ap (λ leaves. shown v p.cycle leaves ++ observation reach v probes) (same p (Contains-here p probes))
-    ∙ ap (λ rest. shown v p.cycle (other p.cycle p.bit) ++ rest) (observation-same reach other v probes (λ q h. same q (Contains-later p q probes h)))
+    ∙ ap (λ rest. shown v p.cycle (other p.cycle p.bit) ++ rest)
+    (observation-same reach other v probes (λ q h. same q (Contains-later p q probes h)))
 
-count-same : (setup : Setup) (cycles : ℕ) (reach other : Reach) (run : Choice → ℕ → Valuation) (probes : List Probe) → ((p : Probe) → Contains probes p → reach p.cycle p.bit ≡ other p.cycle p.bit)
-    → (secrets seen : List Bool) → count_showing setup cycles reach run probes secrets seen ≡ count_showing setup cycles other run probes secrets seen
+count-same : (setup : Setup) (cycles : ℕ) (reach other : Reach) (run : Choice → ℕ → Valuation) (probes : List Probe)
+    → ((p : Probe) → Contains probes p → reach p.cycle p.bit ≡ other p.cycle p.bit)
+    → (secrets seen : List Bool)
+    → count_showing setup cycles reach run probes secrets seen ≡ count_showing setup cycles other run probes secrets seen
 count-same setup cycles reach other run probes same secrets seen =
     ap (λ test. length (filter test (choices_with setup.table cycles secrets)))
     (fun_ext (λ c. ap (λ bits. same_bits bits seen) (observation-same reach other (run c) probes same)))
 
 -- security goes from one reach to another that is the same where probes can be
-secure-same : (flat : Flat) (setup : Setup) (cycles : ℕ) (reach other : Reach) → ((t b : ℕ) → t < cycles → b < flat.bits → reach t b ≡ other t b)
+secure-same : (flat : Flat) (setup : Setup) (cycles : ℕ) (reach other : Reach)
+    → ((t b : ℕ) → t < cycles → b < flat.bits → reach t b ≡ other t b)
     → (d : ℕ) → IsSecureFor flat setup cycles reach d → IsSecureFor flat setup cycles other d
 unfolding IsSecureFor
 secure-same flat setup cycles reach other same d secure run memory runs probes few each secrets others count count' seen =
     sym (counts secrets) ∙ secure run memory runs probes few each secrets others count count' seen ∙ counts others
   where
-    counts : (values : List Bool) → count_showing setup cycles reach run probes values seen ≡ count_showing setup cycles other run probes values seen
+    counts : (values : List Bool)
+        → count_showing setup cycles reach run probes values seen ≡ count_showing setup cycles other run probes values seen
     counts values = count-same setup cycles reach other run probes (λ p h. same p.cycle p.bit (each p h).cycle (each p h).bit) values seen
 
 pub secure_law : SecureLaw

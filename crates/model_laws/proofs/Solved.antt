@@ -24,10 +24,12 @@ driver_of-listed [] once c h = absurd (Contains-none c h)
 driver_of-listed (d ∷ cs) once c h = go (Contains-cases d c cs h) (λ i. driver_of-listed cs once.1 c i)
   where
     go : (d ≡ c) ⊎ Contains cs c → (Contains cs c → driver_of cs c.output ≡ Some c) → driver_of (d ∷ cs) c.output ≡ Some c
-    go (inl e) rest = ap (λ t. cond t (Some d) (driver_of cs c.output)) (eq-eqb d.output c.output (ap (λ (x : FlatCell). x.output) e)) ∙ ap Some e
+    go (inl e) rest =
+        ap (λ t. cond t (Some d) (driver_of cs c.output)) (eq-eqb d.output c.output (ap (λ (x : FlatCell). x.output) e)) ∙ ap Some e
     go (inr i) rest =
         ap (λ t. cond t (Some d) (driver_of cs c.output))
-        (eq_test d.output c.output (λ same. once.0 (subst (Contains (outputs cs)) (sym same) (Contains-map (λ (x : FlatCell). x.output) cs c i)))) ∙ rest i
+        (eq_test d.output c.output (λ same. once.0 (subst (Contains (outputs cs)) (sym same) (Contains-map (λ (x : FlatCell). x.output) cs c i))))
+        ∙ rest i
 
 -- a driver is a cell with this output
 pub record IsDriver (cs : List FlatCell) (b : ℕ) (c : FlatCell) : Type 0 where
@@ -66,14 +68,16 @@ pub record HasStates {X : Type 0} (flat : Flat) (f : FlatCell → (ℕ → X) �
   pub leaves : (b : ℕ) → (IsCellBit flat b → ⊥) → state b ≡ leaf b
   pub cells : (c : FlatCell) → Contains flat.cells c → state c.output ≡ f c state
 
-pub states_exist : {X : Type 0} (flat : Flat) (rank : ℕ → ℕ) (f : FlatCell → (ℕ → X) → X) (leaf : ℕ → X) → IsRanked flat rank → HasOneDriver flat → ReadsWires f → HasStates flat f leaf
+pub states_exist : {X : Type 0} (flat : Flat) (rank : ℕ → ℕ) (f : FlatCell → (ℕ → X) → X) (leaf : ℕ → X) → IsRanked flat rank
+    → HasOneDriver flat → ReadsWires f → HasStates flat f leaf
 states_exist {X} flat rank f leaf ranked driven reads = record { state = state; leaves = leaves; cells = cells }
   where
     at : ℕ → ℕ → X
     at = solve f leaf flat.cells
 
     once : HasNoRepeat (outputs flat.cells)
-    once = (apart_parts (input_bits flat) (outputs flat.cells) (apart_parts (input_bits flat ++ outputs flat.cells) (map (λ (x : FlatFlop). x.output) flat.flops) driven.once).left).right
+    once =
+        (apart_parts (input_bits flat) (outputs flat.cells) (apart_parts (input_bits flat ++ outputs flat.cells) (map (λ (x : FlatFlop). x.output) flat.flops) driven.once).left).right
 
     stable : (n m b : ℕ) → rank b < n → rank b < m → at n b ≡ at m b
     stable zero m b below other = absurd (omega arith)
@@ -96,7 +100,8 @@ states_exist {X} flat rank f leaf ranked driven reads = record { state = state; 
       where
         go : (o : Option FlatCell) → driver_of flat.cells b ≡ o → from_driver f (leaf b) (at (rank b)) o ≡ leaf b
         go None e = refl
-        go (Some c) e = let d = driver_of-sound flat.cells b c e in absurd (none (any_from_member (λ (x : FlatCell). x.output ≡ b) flat.cells c d.listed d.drives))
+        go (Some c) e =
+            let d = driver_of-sound flat.cells b c e in absurd (none (any_from_member (λ (x : FlatCell). x.output ≡ b) flat.cells c d.listed d.drives))
 
     cells : (c : FlatCell) → Contains flat.cells c → state c.output ≡ f c state
     cells c listed =

@@ -29,7 +29,8 @@ pub record HasSources {X : Type 0} (flat : Flat) (setup : Setup) (sources : Sour
   pub clock : (b : ℕ) → setup.clock ≡ Some b → state b ≡ sources.still
   pub inputs : (p : InputPlan) → Contains setup.inputs p → state p.bit ≡ sources.input p
   pub echoes : (e : EchoPlan) → Contains setup.echoes e → state e.bit ≡ sources.echo e
-  pub answers : (mem : MemPlan) → Contains setup.memories mem → (k b : ℕ) → slice_get mem.answer k ≡ Some b → state b ≡ sources.answer mem k b
+  pub answers : (mem : MemPlan) → Contains setup.memories mem → (k b : ℕ) → slice_get mem.answer k ≡ Some b
+      → state b ≡ sources.answer mem k b
   pub flops : (f : FlatFlop) → Contains flat.flops f → state f.output ≡ sources.flop f
 
 abbrev answer_entries : {X : Type 0} → (ℕ → ℕ → X) → ℕ → List ℕ → List (Entry X)
@@ -40,11 +41,13 @@ answer_bits : {X : Type 0} (f : ℕ → ℕ → X) (k : ℕ) (bs : List ℕ) →
 answer_bits f k [] = refl
 answer_bits f k (b ∷ bs) = ap (λ rest. b ∷ rest) (answer_bits f (suc k) bs)
 
-answer_listed : {X : Type 0} (f : ℕ → ℕ → X) (j : ℕ) (bs : List ℕ) (k b : ℕ) → slice_get bs k ≡ Some b → Contains (answer_entries f j bs) (record { bit = b; state = f (j + k) b })
+answer_listed : {X : Type 0} (f : ℕ → ℕ → X) (j : ℕ) (bs : List ℕ) (k b : ℕ) → slice_get bs k ≡ Some b
+    → Contains (answer_entries f j bs) (record { bit = b; state = f (j + k) b })
 answer_listed f j [] k b e = absurd cc
 answer_listed f j (a ∷ bs) zero b e =
     let same : a ≡ b = cc in let z : j ≡ j + 0 = omega arith in
-    subst (Contains (answer_entries f j (a ∷ bs))) (ap (λ x. record { bit = x; state = f j x }) same ∙ ap (λ i. record { bit = b; state = f i b }) z)
+    subst (Contains (answer_entries f j (a ∷ bs)))
+    (ap (λ x. record { bit = x; state = f j x }) same ∙ ap (λ i. record { bit = b; state = f i b }) z)
     (Contains-here (record { bit = a; state = f j a }) (answer_entries f (suc j) bs))
 answer_listed f j (a ∷ bs) (suc k) b e =
     let z : suc j + k ≡ j + suc k = omega arith in
@@ -84,7 +87,8 @@ clock_bits : {X : Type 0} (x : X) (bs : List ℕ) → bits_of (map (λ (b : ℕ)
 clock_bits x [] = refl
 clock_bits x (b ∷ bs) = ap (λ rest. b ∷ rest) (clock_bits x bs)
 
-joined_bits : {X : Type 0} (flat : Flat) (setup : Setup) (s : Sources X) → bits_of (joined (parts_of flat setup s)) ≡ bound_bits setup ++ flop_outputs flat
+joined_bits : {X : Type 0} (flat : Flat) (setup : Setup) (s : Sources X)
+    → bits_of (joined (parts_of flat setup s)) ≡ bound_bits setup ++ flop_outputs flat
 joined_bits {X} flat setup s =
     bits_of-append (p.clock ++ p.inputs ++ p.echoes ++ p.answers) p.flops
     ∙ ap (λ bs. bs ++ bits_of p.flops) (bits_of-append (p.clock ++ p.inputs ++ p.echoes) p.answers)
@@ -105,12 +109,15 @@ joined_bits {X} flat setup s =
     echoes = bits_of-map (λ (x : EchoPlan). record { bit = x.bit; state = s.echo x }) (λ (x : EchoPlan). x.bit) (λ x. refl) setup.echoes
 
     answers : bits_of p.answers ≡ flat_map (λ (mem : MemPlan). mem.answer) setup.memories
-    answers = bits_of-flat_map (λ (mem : MemPlan). answer_entries (s.answer mem) 0 mem.answer) (λ (mem : MemPlan). mem.answer) (λ mem. answer_bits (s.answer mem) 0 mem.answer) setup.memories
+    answers =
+        bits_of-flat_map (λ (mem : MemPlan). answer_entries (s.answer mem) 0 mem.answer) (λ (mem : MemPlan). mem.answer)
+        (λ mem. answer_bits (s.answer mem) 0 mem.answer) setup.memories
 
     flops : bits_of p.flops ≡ flop_outputs flat
     flops = bits_of-map (λ (f : FlatFlop). record { bit = f.output; state = s.flop f }) (λ (f : FlatFlop). f.output) (λ x. refl) flat.flops
 
-    same : bits_of p.clock ++ bits_of p.inputs ++ bits_of p.echoes ++ bits_of p.answers ++ bits_of p.flops ≡ bound_bits setup ++ flop_outputs flat
+    same : bits_of p.clock ++ bits_of p.inputs ++ bits_of p.echoes ++ bits_of p.answers ++ bits_of p.flops ≡ bound_bits setup
+        ++ flop_outputs flat
     same = let a = clock in let b = inputs in let c = echoes in let d = answers in let e = flops in cc
 
 driven_apart : (flat : Flat) → HasOneDriver flat → AreApart (input_bits flat ++ cell_outputs flat) (flop_outputs flat)
@@ -121,25 +128,30 @@ cell_output flat b h = let s = some_from_any (λ (c : FlatCell). c.output ≡ b)
     subst (Contains (cell_outputs flat)) s.holds (Contains-map (λ (c : FlatCell). c.output) flat.cells s.member s.listed)
 
 pub input_no_cell : (flat : Flat) → HasOneDriver flat → (b : ℕ) → IsInputBit flat b → IsCellBit flat b → ⊥
-input_no_cell flat driven b input cell = (apart_parts (input_bits flat) (cell_outputs flat) (driven_apart flat driven).left).apart b input (cell_output flat b cell)
+input_no_cell flat driven b input cell =
+    (apart_parts (input_bits flat) (cell_outputs flat) (driven_apart flat driven).left).apart b input (cell_output flat b cell)
 
 pub flop_no_cell : (flat : Flat) → HasOneDriver flat → (f : FlatFlop) → Contains flat.flops f → IsCellBit flat f.output → ⊥
 flop_no_cell flat driven f listed cell =
     (driven_apart flat driven).apart f.output (Contains-append_right (input_bits flat) (cell_outputs flat) f.output (cell_output flat f.output cell))
     (Contains-map (λ (g : FlatFlop). g.output) flat.flops f listed)
 
-joined_once : {X : Type 0} (flat : Flat) (setup : Setup) (s : Sources X) → IsBound flat setup → HasOneDriver flat → HasNoRepeat (bits_of (joined (parts_of flat setup s)))
-joined_once flat setup s bound driven = subst HasNoRepeat (sym (joined_bits flat setup s)) (no_repeat-append (bound_bits setup) (flop_outputs flat) (record {
-  left = bound.once;
-  right = (driven_apart flat driven).right;
-  apart = λ b h i. (driven_apart flat driven).apart b (Contains-append_left (input_bits flat) (cell_outputs flat) b (bound.only b h)) i;
-}))
+joined_once : {X : Type 0} (flat : Flat) (setup : Setup) (s : Sources X) → IsBound flat setup → HasOneDriver flat
+    → HasNoRepeat (bits_of (joined (parts_of flat setup s)))
+joined_once flat setup s bound driven =
+    subst HasNoRepeat (sym (joined_bits flat setup s)) (no_repeat-append (bound_bits setup) (flop_outputs flat) (record {
+      left = bound.once;
+      right = (driven_apart flat driven).right;
+      apart = λ b h i. (driven_apart flat driven).apart b (Contains-append_left (input_bits flat) (cell_outputs flat) b (bound.only b h)) i;
+    }))
 
 pub leaf_states : {X : Type 0} (flat : Flat) (setup : Setup) (s : Sources X) → IsBound flat setup → HasOneDriver flat → (state : ℕ → X)
     → ((b : ℕ) → (IsCellBit flat b → ⊥) → state b ≡ leaf_state flat setup s b) → HasSources flat setup s state
 unfolding leaf_state
 leaf_states {X} flat setup s bound driven state leaves = record {
-  undriven = λ b u. leaves b u.no_cell ∙ look-none s.still (joined p) b (λ h. no_bit b u (subst (λ bs. Contains bs b) (joined_bits flat setup s) h));
+  undriven =
+      λ b u. leaves b u.no_cell
+      ∙ look-none s.still (joined p) b (λ h. no_bit b u (subst (λ bs. Contains bs b) (joined_bits flat setup s) h));
   clock = λ b e. at_input b s.still (bound.only b (in_clock b e)) (first b (in_first b e));
   inputs = λ q h. at_input q.bit (s.input q) (bound.only q.bit (in_inputs q h))
       (second (record { bit = q.bit; state = s.input q }) (Contains-map (λ (x : InputPlan). record { bit = x.bit; state = s.input x }) setup.inputs q h));
@@ -162,13 +174,16 @@ leaf_states {X} flat setup s bound driven state leaves = record {
     once = joined_once flat setup s bound driven
 
     at_input : (b : ℕ) (x : X) → IsInputBit flat b → Contains (joined p) (record { bit = b; state = x }) → state b ≡ x
-    at_input b x input h = leaves b (input_no_cell flat driven b input) ∙ look-listed s.still (joined p) once (record { bit = b; state = x }) h
+    at_input b x input h =
+        leaves b (input_no_cell flat driven b input) ∙ look-listed s.still (joined p) once (record { bit = b; state = x }) h
 
     fourth : (e : Entry X) → Contains p.answers e → Contains (joined p) e
-    fourth e h = Contains-append_left (p.clock ++ p.inputs ++ p.echoes ++ p.answers) p.flops e (Contains-append_right (p.clock ++ p.inputs ++ p.echoes) p.answers e h)
+    fourth e h =
+        Contains-append_left (p.clock ++ p.inputs ++ p.echoes ++ p.answers) p.flops e (Contains-append_right (p.clock ++ p.inputs ++ p.echoes) p.answers e h)
 
     early : (e : Entry X) → Contains (p.clock ++ p.inputs ++ p.echoes) e → Contains (joined p) e
-    early e h = Contains-append_left (p.clock ++ p.inputs ++ p.echoes ++ p.answers) p.flops e (Contains-append_left (p.clock ++ p.inputs ++ p.echoes) p.answers e h)
+    early e h =
+        Contains-append_left (p.clock ++ p.inputs ++ p.echoes ++ p.answers) p.flops e (Contains-append_left (p.clock ++ p.inputs ++ p.echoes) p.answers e h)
 
     third : (e : Entry X) → Contains p.echoes e → Contains (joined p) e
     third e h = early e (Contains-append_right (p.clock ++ p.inputs) p.echoes e h)
@@ -199,10 +214,12 @@ leaf_states {X} flat setup s bound driven state leaves = record {
     answer_list = flat_map (λ (mem : MemPlan). mem.answer) setup.memories
 
     in_clock : (b : ℕ) → setup.clock ≡ Some b → Contains (bound_bits setup) b
-    in_clock b e = Contains-append_left (clocks ++ input_list ++ echo_list) answer_list b (Contains-append_left (clocks ++ input_list) echo_list b (Contains-append_left clocks input_list b (in_option setup.clock b e)))
+    in_clock b e =
+        Contains-append_left (clocks ++ input_list ++ echo_list) answer_list b (Contains-append_left (clocks ++ input_list) echo_list b (Contains-append_left clocks input_list b (in_option setup.clock b e)))
 
     in_inputs : (q : InputPlan) → Contains setup.inputs q → Contains (bound_bits setup) q.bit
-    in_inputs q h = Contains-append_left (clocks ++ input_list ++ echo_list) answer_list q.bit (Contains-append_left (clocks ++ input_list) echo_list q.bit
+    in_inputs q h =
+        Contains-append_left (clocks ++ input_list ++ echo_list) answer_list q.bit (Contains-append_left (clocks ++ input_list) echo_list q.bit
         (Contains-append_right clocks input_list q.bit (Contains-map (λ (x : InputPlan). x.bit) setup.inputs q h)))
 
     in_echoes : (e : EchoPlan) → Contains setup.echoes e → Contains (bound_bits setup) e.bit

@@ -42,7 +42,8 @@ pub one_run : (flat : Flat) (setup : Setup) (cycles : ℕ) (rank : ℕ → ℕ) 
     → (choice : Choice) (v w : ℕ → Valuation) (m n : ℕ → Memory) → IsRun flat setup cycles choice v m → IsRun flat setup cycles choice w n
     → (t : ℕ) → t < cycles → IsLinked flat (v t) (w t) (m t) (n t) (λ a b. a ≡ b) (λ a b. a ≡ b)
 one_run flat setup cycles rank ranked bound choice v w m n run_v run_w =
-    carried-linked (values choice) (values choice) IsAnyStart flat setup cycles v w v w m n (λ _ a b. a ≡ b) (λ _ a b. a ≡ b) bound (any_starts flat setup)
+    carried-linked (values choice) (values choice) IsAnyStart flat setup cycles v w v w m n (λ _ a b. a ≡ b)
+    (λ _ a b. a ≡ b) bound (any_starts flat setup)
     (record {
       constants = λ t b. refl;
       starts = λ t below start any. refl;
@@ -67,7 +68,9 @@ one_known_law flat setup cycles rank ranked bound row other word others known kn
     (record {
       constants = λ t b. refl;
       starts = λ t below start any. refl;
-      settles = λ t below lower leaves. one_forced_row flat rank (row t) (other t) ranked (known.forced t below) (known_other.forced t below) leaves;
+      settles =
+          λ t below lower leaves. one_forced_row flat rank (row t) (other t) ranked (known.forced t below)
+          (known_other.forced t below) leaves;
       passes = λ t x y h. h;
       stays = λ t x y h. h;
       requests = λ t below same mem listed. same_requests (ones (row t)) (ones (other t)) (ap ones (fun_ext same)) mem;
@@ -79,7 +82,8 @@ wire_root-cong s u (Const b) same = refl
 wire_root-cong s u (Bit n) same = same n refl
 
 -- a cell keeps its root where its inputs' roots are the same in both cycles
-kept_also : (row : ℕ → Row) (root other : ℕ → ℕ → Root) (t : ℕ) (c : FlatCell) → ((b : ℕ) → Contains (wires_of c) (Bit b) → root t b ≡ other t b)
+kept_also : (row : ℕ → Row) (root other : ℕ → ℕ → Root) (t : ℕ) (c : FlatCell)
+    → ((b : ℕ) → Contains (wires_of c) (Bit b) → root t b ≡ other t b)
     → ((r : ℕ) → r < t → (b : ℕ) → root r b ≡ other r b) → IsKept row root t c → IsKept row other t c
 kept_also row root other zero c same lower kept = kept
 kept_also row root other (suc t) c same lower kept = λ w listed. record {
@@ -125,10 +129,13 @@ Part_same Vary Zero = inr (λ e. cc)
 Part_same Vary One = inr (λ e. cc)
 
 -- a wire is the same in two cycles or not
-pub steady_or_not : (old now : Row) (old_root now_root : ℕ → Root) (w : Wire) → IsSteady old now old_root now_root w ⊎ (IsSteady old now old_root now_root w → ⊥)
-steady_or_not old now old_root now_root w = go (Part_same (wire_part old w) (wire_part now w)) (Root_same (wire_root old_root w) (wire_root now_root w))
+pub steady_or_not : (old now : Row) (old_root now_root : ℕ → Root) (w : Wire)
+    → IsSteady old now old_root now_root w ⊎ (IsSteady old now old_root now_root w → ⊥)
+steady_or_not old now old_root now_root w =
+    go (Part_same (wire_part old w) (wire_part now w)) (Root_same (wire_root old_root w) (wire_root now_root w))
   where
-    go : (wire_part old w ≡ wire_part now w) ⊎ (wire_part old w ≢ wire_part now w) → (wire_root old_root w ≡ wire_root now_root w) ⊎ (wire_root old_root w ≢ wire_root now_root w)
+    go : (wire_part old w ≡ wire_part now w) ⊎ (wire_part old w ≢ wire_part now w)
+        → (wire_root old_root w ≡ wire_root now_root w) ⊎ (wire_root old_root w ≢ wire_root now_root w)
         → IsSteady old now old_root now_root w ⊎ (IsSteady old now old_root now_root w → ⊥)
     go (inl e) (inl f) = inl (record { part = e; root = f })
     go (inl e) (inr n) = inr (λ s. n s.root)
@@ -137,14 +144,18 @@ steady_or_not old now old_root now_root w = go (Part_same (wire_part old w) (wir
 -- a cell keeps its root or not
 pub kept_or_not : (row : ℕ → Row) (root : ℕ → ℕ → Root) (t : ℕ) (c : FlatCell) → IsKept row root t c ⊎ (IsKept row root t c → ⊥)
 kept_or_not row root zero c = inr (λ h. h)
-kept_or_not row root (suc t) c = all_or_not (λ w. IsSteady (row t) (row (suc t)) (root t) (root (suc t)) w) (λ w. steady_or_not (row t) (row (suc t)) (root t) (root (suc t)) w) (wires_of c)
+kept_or_not row root (suc t) c =
+    all_or_not (λ w. IsSteady (row t) (row (suc t)) (root t) (root (suc t)) w)
+    (λ w. steady_or_not (row t) (row (suc t)) (root t) (root (suc t)) w) (wires_of c)
 
 -- a cell's root is one
 one_cell_root : (row : ℕ → Row) (root other : ℕ → ℕ → Root) (t : ℕ) (c : FlatCell) → HasCellRoot row root t c → HasCellRoot row other t c
-    → ((b : ℕ) → Contains (wires_of c) (Bit b) → root t b ≡ other t b) → ((r : ℕ) → r < t → (b : ℕ) → root r b ≡ other r b) → root t c.output ≡ other t c.output
+    → ((b : ℕ) → Contains (wires_of c) (Bit b) → root t b ≡ other t b) → ((r : ℕ) → r < t → (b : ℕ) → root r b ≡ other r b)
+    → root t c.output ≡ other t c.output
 one_cell_root row root other t c has has_other same lower = go (vary_or_not (row t c.output)) (kept_or_not row root t c)
   where
-    go : (row t c.output ≡ Vary) ⊎ (row t c.output ≢ Vary) → IsKept row root t c ⊎ (IsKept row root t c → ⊥) → root t c.output ≡ other t c.output
+    go : (row t c.output ≡ Vary) ⊎ (row t c.output ≢ Vary) → IsKept row root t c ⊎ (IsKept row root t c → ⊥)
+        → root t c.output ≡ other t c.output
     go (inr known) kept = has.known known ∙ sym (has_other.known known)
     go (inl varies) (inl kept) = has.kept varies kept ∙ lower (before t) (before_earlier row root t c kept) c.output
         ∙ sym (has_other.kept varies (kept_also row root other t c same lower kept))

@@ -34,8 +34,10 @@ OneForcedLaw =
     (flat : Flat) (rank : ℕ → ℕ) (p q : Row) → IsRanked flat rank → IsForcedRow flat p → IsForcedRow flat q
     → ((b : ℕ) → (IsCellBit flat b → ⊥) → p b ≡ q b) → (b : ℕ) → p b ≡ q b
 
--- a netlist without loops, whose input port bits are all bound, and what is known of it, where every control that applies is known
-pub record IsChecked (flat : Flat) (setup : Setup) (cycles : ℕ) (rank : ℕ → ℕ) (row : ℕ → Row) (word : ℕ → ℕ → Row) : Type 0 where
+-- a netlist without loops, whose input port bits are all bound, and what is known of it, where every control that
+-- applies is known
+pub record IsChecked (flat : Flat) (setup : Setup) (cycles : ℕ) (rank : ℕ → ℕ) (row : ℕ → Row)
+    (word : ℕ → ℕ → Row) : Type 0 where
   pub ranked : IsRanked flat rank
   pub bound : IsBound flat setup
   pub has_controls : HasControls flat setup
@@ -45,9 +47,11 @@ pub record IsChecked (flat : Flat) (setup : Setup) (cycles : ℕ) (rank : ℕ �
 -- what is known of a bit, or of a bit of a memory word, is its value in every run
 unfoldable pub KnownLaw : Type 0
 KnownLaw =
-    (flat : Flat) (setup : Setup) (cycles : ℕ) (rank : ℕ → ℕ) (row : ℕ → Row) (word : ℕ → ℕ → Row) → IsChecked flat setup cycles rank row word
+    (flat : Flat) (setup : Setup) (cycles : ℕ) (rank : ℕ → ℕ) (row : ℕ → Row) (word : ℕ → ℕ → Row)
+    → IsChecked flat setup cycles rank row word
     → (choice : Choice) (v : ℕ → Valuation) (m : ℕ → Memory) → IsRun flat setup cycles choice v m
-    → (t : ℕ) → t < cycles → ((b : ℕ) → Allows (row t b) (v t b)) × ((address k : ℕ) → Allows (word t address k) (m t address k))
+    → (t : ℕ) → t < cycles
+    → ((b : ℕ) → Allows (row t b) (v t b)) × ((address k : ℕ) → Allows (word t address k) (m t address k))
 
 -- what the memory ports are known to do they do in every run
 pub record AreSameRequests (v w : Valuation) (mem : MemPlan) : Type 0 where
@@ -57,25 +61,32 @@ pub record AreSameRequests (v w : Valuation) (mem : MemPlan) : Type 0 where
 
 unfoldable pub RequestsLaw : Type 0
 RequestsLaw =
-    (flat : Flat) (setup : Setup) (cycles : ℕ) (rank : ℕ → ℕ) (row : ℕ → Row) (word : ℕ → ℕ → Row) → IsChecked flat setup cycles rank row word
+    (flat : Flat) (setup : Setup) (cycles : ℕ) (rank : ℕ → ℕ) (row : ℕ → Row) (word : ℕ → ℕ → Row)
+    → IsChecked flat setup cycles rank row word
     → (choice : Choice) (v : ℕ → Valuation) (m : ℕ → Memory) → IsRun flat setup cycles choice v m
     → (t : ℕ) → t < cycles → (mem : MemPlan) → Contains setup.memories mem → AreSameRequests (ones (row t)) (v t) mem
 
 -- under every schedule a calm bit has its calm value at every moment
 unfoldable pub CalmLaw : Type 0
 CalmLaw =
-    (flat : Flat) (setup : Setup) (cycles : ℕ) (rank : ℕ → ℕ) (row : ℕ → Row) (word : ℕ → ℕ → Row) → IsChecked flat setup cycles rank row word
+    (flat : Flat) (setup : Setup) (cycles : ℕ) (rank : ℕ → ℕ) (row : ℕ → Row) (word : ℕ → ℕ → Row)
+    → IsChecked flat setup cycles rank row word
     → (choice : Choice) (v : ℕ → Valuation) (m : ℕ → Memory) → IsRun flat setup cycles choice v m
     → (t : ℕ) → t < cycles → (calm : Row) → IsCalm flat (row (before t)) (row t) calm
-    → (events : List Event) (b : ℕ) (x : Bool) → Contains (waveform flat (v t) b (v (before t)) events) x → Allows (calm b) x
+    → (events : List Event) (b : ℕ) (x : Bool) → Contains (waveform flat (v t) b (v (before t)) events) x
+    → Allows (calm b) x
 
--- two runs that agree on the old and the new value of every leaf that a bit reaches show one waveform of it, under every schedule
+-- two runs that agree on the old and the new value of every leaf that a bit reaches show one waveform of it, under
+-- every schedule
 unfoldable pub WaveformLaw : Type 0
 WaveformLaw =
-    (flat : Flat) (setup : Setup) (cycles : ℕ) (rank : ℕ → ℕ) (row : ℕ → Row) (word : ℕ → ℕ → Row) → IsChecked flat setup cycles rank row word
-    → (one other : Choice) (v w : ℕ → Valuation) (m n : ℕ → Memory) → IsRun flat setup cycles one v m → IsRun flat setup cycles other w n
+    (flat : Flat) (setup : Setup) (cycles : ℕ) (rank : ℕ → ℕ) (row : ℕ → Row) (word : ℕ → ℕ → Row)
+    → IsChecked flat setup cycles rank row word
+    → (one other : Choice) (v w : ℕ → Valuation) (m n : ℕ → Memory) → IsRun flat setup cycles one v m
+    → IsRun flat setup cycles other w n
     → (t : ℕ) → t < cycles → (calm : Row) → IsCalm flat (row (before t)) (row t) calm
-    → (b : ℕ) → ((leaf : ℕ) → Reaches flat calm leaf b → (v (before t) leaf ≡ w (before t) leaf) × (v t leaf ≡ w t leaf))
+    → (b : ℕ)
+    → ((leaf : ℕ) → Reaches flat calm leaf b → (v (before t) leaf ≡ w (before t) leaf) × (v t leaf ≡ w t leaf))
     → (events : List Event) → waveform flat (v t) b (v (before t)) events ≡ waveform flat (w t) b (w (before t)) events
 
 -- a root of a bit in a cycle: a label of the run, or the output that the bit is, or that of a cell in an earlier cycle
@@ -87,7 +98,8 @@ pub record IsRootInRange (flat : Flat) (count t b : ℕ) (root : Root) : Type 0 
 -- an unknown bit has in every run the value of its root, and the root of a known bit is nothing
 unfoldable pub RootLaw : Type 0
 RootLaw =
-    (flat : Flat) (setup : Setup) (cycles : ℕ) (rank : ℕ → ℕ) (row : ℕ → Row) (word : ℕ → ℕ → Row) → IsChecked flat setup cycles rank row word
+    (flat : Flat) (setup : Setup) (cycles : ℕ) (rank : ℕ → ℕ) (row : ℕ → Row) (word : ℕ → ℕ → Row)
+    → IsChecked flat setup cycles rank row word
     → AreStarts (IsLabelled setup.table) flat setup
     → (root : ℕ → ℕ → Root) (rooted : ℕ → ℕ → ℕ → Root) → IsRooted flat setup cycles row root rooted
     → (t b : ℕ) → t < cycles
@@ -103,20 +115,23 @@ pub record AreSameRuns (cycles : ℕ) (v w : ℕ → Valuation) (m n : ℕ → M
 unfoldable pub OneRunLaw : Type 0
 OneRunLaw =
     (flat : Flat) (setup : Setup) (cycles : ℕ) (rank : ℕ → ℕ) → IsRanked flat rank → IsBound flat setup
-    → (choice : Choice) (v w : ℕ → Valuation) (m n : ℕ → Memory) → IsRun flat setup cycles choice v m → IsRun flat setup cycles choice w n
+    → (choice : Choice) (v w : ℕ → Valuation) (m n : ℕ → Memory) → IsRun flat setup cycles choice v m
+    → IsRun flat setup cycles choice w n
     → AreSameRuns cycles v w m n
 
 -- what is known is one, and so are the roots
 unfoldable pub OneKnownLaw : Type 0
 OneKnownLaw =
     (flat : Flat) (setup : Setup) (cycles : ℕ) (rank : ℕ → ℕ) → IsRanked flat rank → IsBound flat setup
-    → (row other : ℕ → Row) (word others : ℕ → ℕ → Row) → IsKnown flat setup cycles row word → IsKnown flat setup cycles other others
+    → (row other : ℕ → Row) (word others : ℕ → ℕ → Row) → IsKnown flat setup cycles row word
+    → IsKnown flat setup cycles other others
     → (t : ℕ) → t < cycles → (b : ℕ) → row t b ≡ other t b
 
 unfoldable pub OneRootedLaw : Type 0
 OneRootedLaw =
     (flat : Flat) (setup : Setup) (cycles : ℕ) (rank : ℕ → ℕ) → IsRanked flat rank → IsBound flat setup
-    → (row : ℕ → Row) (root other : ℕ → ℕ → Root) (word others : ℕ → ℕ → ℕ → Root) → IsRooted flat setup cycles row root word → IsRooted flat setup cycles row other others
+    → (row : ℕ → Row) (root other : ℕ → ℕ → Root) (word others : ℕ → ℕ → ℕ → Root)
+    → IsRooted flat setup cycles row root word → IsRooted flat setup cycles row other others
     → (t : ℕ) → t < cycles → (b : ℕ) → root t b ≡ other t b
 
 -- what a probe reaches is one
@@ -129,7 +144,8 @@ OneReachLaw =
 -- the coarser reach is one
 unfoldable pub OneWideReachLaw : Type 0
 OneWideReachLaw =
-    (flat : Flat) (setup : Setup) (cycles : ℕ) (reach other : Reach) → IsWideReach flat setup cycles reach → IsWideReach flat setup cycles other
+    (flat : Flat) (setup : Setup) (cycles : ℕ) (reach other : Reach) → IsWideReach flat setup cycles reach
+    → IsWideReach flat setup cycles other
     → (t b : ℕ) → t < cycles → b < flat.bits → reach t b ≡ other t b
 
 -- runs, what is known, roots, what a probe reaches and the coarser reach
@@ -151,7 +167,8 @@ pub record HasMeaning (flat : Flat) (setup : Setup) (cycles : ℕ) : Type 0 wher
 -- a netlist and a setup have a meaning, so that what is said of every run and reach says something
 unfoldable pub MeaningLaw : Type 0
 MeaningLaw =
-    (flat : Flat) (setup : Setup) (cycles : ℕ) (rank : ℕ → ℕ) → IsRanked flat rank → IsBound flat setup → HasOneDriver flat → IsInRange flat
+    (flat : Flat) (setup : Setup) (cycles : ℕ) (rank : ℕ → ℕ) → IsRanked flat rank → IsBound flat setup
+    → HasOneDriver flat → IsInRange flat
     → HasMeaning flat setup cycles
 
 -- the events of all leaves and then of all cells in order end in the settled valuation of the new leaves
@@ -164,18 +181,23 @@ EndLaw =
 -- the nodes of a run stand for its roots
 unfoldable pub UnrolledLaw : Type 0
 UnrolledLaw =
-    (flat : Flat) (setup : Setup) (cycles : ℕ) (rank : ℕ → ℕ) (row : ℕ → Row) (word : ℕ → ℕ → Row) → IsChecked flat setup cycles rank row word
+    (flat : Flat) (setup : Setup) (cycles : ℕ) (rank : ℕ → ℕ) (row : ℕ → Row) (word : ℕ → ℕ → Row)
+    → IsChecked flat setup cycles rank row word
     → IsInRange flat
     → (root : ℕ → ℕ → Root) (rooted : ℕ → ℕ → ℕ → Root) → IsRooted flat setup cycles row root rooted
     → (index : ℕ → ℕ → ℕ) → ((t b s c : ℕ) → b < flat.bits → c < flat.bits → index t b ≡ index s c → (t ≡ s) × (b ≡ c))
-    → (nodes : ℕ → Node) (node_word : ℕ → ℕ → ℕ → Node) → IsUnrolled flat setup cycles index row root (λ t b. nodes (index t b)) node_word
+    → (nodes : ℕ → Node) (node_word : ℕ → ℕ → ℕ → Node)
+    → IsUnrolled flat setup cycles index row root (λ t b. nodes (index t b)) node_word
     → AreNodesOf flat cycles index row root nodes
 
--- nodes that stand for the roots: two that lead to one origin have one root, and one whose root is an output leads to that output's
-pub record StandsForRoots (flat : Flat) (cycles : ℕ) (index : ℕ → ℕ → ℕ) (root : ℕ → ℕ → Root) (nodes : ℕ → Node) : Type 0 where
+-- nodes that stand for the roots: two that lead to one origin have one root, and one whose root is an output leads to
+-- that output's
+pub record StandsForRoots (flat : Flat) (cycles : ℕ) (index : ℕ → ℕ → ℕ) (root : ℕ → ℕ → Root)
+    (nodes : ℕ → Node) : Type 0 where
   pub origin : (o t b s c : ℕ) → t < cycles → b < flat.bits → s < cycles → c < flat.bits
       → LeadsTo nodes o (index t b) → LeadsTo nodes o (index s c) → root t b ≡ root s c
-  pub output : (t b s c : ℕ) → t < cycles → b < flat.bits → root t b ≡ output s c → LeadsTo nodes (index s c) (index t b)
+  pub output : (t b s c : ℕ) → t < cycles → b < flat.bits → root t b ≡ output s c
+      → LeadsTo nodes (index s c) (index t b)
 
 unfoldable pub NodesLaw : Type 0
 NodesLaw =
@@ -184,22 +206,26 @@ NodesLaw =
 
 -- the sets of nodes and the sets of their roots are the same
 abbrev pub AreSameSets : Flat → ℕ → (ℕ → ℕ → ℕ) → (ℕ → ℕ → Root) → (ℕ → Labels) → (Root → Labels) → Type 0
-AreSameSets flat cycles index root sets set_of = (t b l : ℕ) → t < cycles → b < flat.bits → sets (index t b) l ≡ set_of (root t b) l
+AreSameSets flat cycles index root sets set_of =
+    (t b l : ℕ) → t < cycles → b < flat.bits → sets (index t b) l ≡ set_of (root t b) l
 
 -- the sets of all nodes are those of a selection of nodes
 abbrev pub AreNodeSets : Flat → ℕ → (ℕ → ℕ → ℕ) → (ℕ → Node) → (ℕ → Labels) → Type 0
-AreNodeSets flat cycles index nodes sets = (t b : ℕ) → t < cycles → b < flat.bits → IsNodeSet sets (index t b) (nodes (index t b))
+AreNodeSets flat cycles index nodes sets =
+    (t b : ℕ) → t < cycles → b < flat.bits → IsNodeSet sets (index t b) (nodes (index t b))
 
 -- a selection of roots is one of nodes
 unfoldable pub NodeSetsLaw : Type 0
 NodeSetsLaw =
     (flat : Flat) (cycles : ℕ) (index : ℕ → ℕ → ℕ) (row : ℕ → Row) (root : ℕ → ℕ → Root) (nodes : ℕ → Node)
     → AreNodesOf flat cycles index row root nodes → IsInRange flat
-    → (set_of : Root → Labels) → IsSelection flat cycles row root set_of → (sets : ℕ → Labels) → AreSameSets flat cycles index root sets set_of
+    → (set_of : Root → Labels) → IsSelection flat cycles row root set_of → (sets : ℕ → Labels)
+    → AreSameSets flat cycles index root sets set_of
     → AreNodeSets flat cycles index nodes sets
 
 -- a selection of roots with the sets of nodes
-pub record HasSelection (flat : Flat) (cycles : ℕ) (index : ℕ → ℕ → ℕ) (row : ℕ → Row) (root : ℕ → ℕ → Root) (sets : ℕ → Labels) : Type 0 where
+pub record HasSelection (flat : Flat) (cycles : ℕ) (index : ℕ → ℕ → ℕ) (row : ℕ → Row) (root : ℕ → ℕ → Root)
+    (sets : ℕ → Labels) : Type 0 where
   pub set_of : Root → Labels
   pub selection : IsSelection flat cycles row root set_of
   pub same : AreSameSets flat cycles index root sets set_of
@@ -217,7 +243,8 @@ RootSetsLaw =
 unfoldable pub SecureLaw : Type 0
 SecureLaw =
     (flat : Flat) (setup : Setup) (cycles : ℕ) (rank : ℕ → ℕ) → IsRanked flat rank → IsBound flat setup
-    → (reach : Reach) → IsReach flat setup cycles reach → (d : ℕ) → IsSecureFor flat setup cycles reach d → IsSecure flat setup cycles d
+    → (reach : Reach) → IsReach flat setup cycles reach → (d : ℕ) → IsSecureFor flat setup cycles reach d
+    → IsSecure flat setup cycles d
 
 -- the same for the coarser reach
 unfoldable pub WidelySecureLaw : Type 0

@@ -1,0 +1,16 @@
+//! The top call of Coco: from the bytes of a netlist and a label file to a report.
+#![tactic(auto)]
+
+mod cones;
+mod labels;
+mod leak;
+mod names;
+mod reading;
+mod refusal;
+mod report;
+mod run;
+mod text;
+mod words;
+mod writing;
+
+pub use run::check_run;

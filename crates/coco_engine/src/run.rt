@@ -1,0 +1,164 @@
+ghost use Rattle.std.specs.Prelude.{◌≡◌, ◌↔◌, ◌≤◌, IfOk, IfSome, None, length};
+ghost use Rattle.coco_base.specs.Causes.{Rose};
+ghost use Rattle.coco_engine.specs.Answers.{Answers, FlatAnswers, Leaves, MayWrite, StopAnswers};
+ghost use Rattle.coco_engine.specs.Refusals.{file_limit, refusal_line};
+ghost use Rattle.coco_engine.specs.Requests.{shown_command};
+ghost use Rattle.coco_engine.specs.Words.{command, texts};
+
+use crate::labels::{Labels, read_labels};
+use crate::leak::first_leak;
+use crate::reading::{ReadStop, read_whole};
+use crate::refusal::{self, Refusal};
+use crate::report;
+use crate::text::line;
+use crate::words::{Request, read_words};
+use crate::writing::write_whole;
+use coco_base::{Failed, Flat, NoMemory, Shelf, Sink, Status, Text};
+use netlist_json::{NetFault, read_netlist};
+use std::alloc::Global;
+
+/// What a call writes, and the status that goes with it.
+#[derive(Debug, Drop)]
+struct Reply {
+    status: Status,
+    text: Vec<u8>,
+}
+
+fn refused(alloc: Global, refusal: &Refusal) -> Result<Reply, NoMemory>
+    ensures status { IfOk result (λ r. r.status ≡ Status.Refused) }
+    ensures text { IfOk result (λ r. r.text.items ≡ refusal_line refusal.now) }
+{
+    Ok(Reply {
+        status: Status::Refused,
+        text: refusal::text(alloc, refusal)?,
+    })
+}
+
+fn not_built(alloc: Global, name: &str) -> Result<Reply, NoMemory>
+    ensures status { IfOk result (λ r. r.status ≡ Status.Refused) }
+    ensures text { IfOk result (λ r. r.text.items ≡ refusal_line (Refusal.NotBuilt name.now)) }
+{
+    let name = Text::of(alloc, name)?;
+    refused(alloc, &Refusal::NotBuilt { name })
+}
+
+// the verdict on a netlist with the labels of a file
+fn verdict(
+    alloc: Global,
+    request: &Request,
+    flat: &Flat,
+    labels: &Labels,
+) -> Result<Reply, NoMemory>
+    ensures { IfOk result (λ r. FlatAnswers (shown_command request.now) flat.now r.status r.text.items) }
+{
+    match first_leak(alloc, flat, labels, request.cycles)? {
+        None => Ok(Reply {
+            status: Status::Accepted,
+            text: report::accepted(alloc, request, flat, labels)?,
+        }),
+        Some(leak) => Ok(Reply {
+            status: Status::Rejected,
+            text: report::rejected(alloc, request, flat, labels, &leak)?,
+        }),
+    }
+}
+
+fn judged_flat(
+    alloc: Global,
+    request: &Request,
+    flat: &Flat,
+    labels: &[u8],
+) -> Result<Reply, NoMemory>
+    ensures { IfOk result (λ r. FlatAnswers (shown_command request.now) flat.now r.status r.text.items) }
+{
+    match read_labels(alloc, flat, labels)? {
+        Some(labels) => verdict(alloc, request, flat, &labels),
+        None => not_built(alloc, request.labels),
+    }
+}
+
+// the answer to the bytes of a netlist and of a label file
+fn judged(
+    alloc: Global,
+    request: &Request,
+    netlist: &[u8],
+    labels: &[u8],
+) -> Result<Reply, NoMemory>
+    requires netlist_fits { length netlist.now ≤ file_limit }
+    requires labels_fit { length labels.now ≤ file_limit }
+    ensures { IfOk result (λ r. Answers (shown_command request.now) netlist.now labels.now r.status r.text.items) }
+{
+    match read_netlist(alloc, netlist) {
+        Ok(flat) => judged_flat(alloc, request, &flat, labels),
+        Err(NetFault::NotJson) => refused(alloc, &Refusal::NotJson),
+        Err(NetFault::NotBuilt) => not_built(alloc, request.netlist),
+        Err(NetFault::Memory) => Err(NoMemory),
+    }
+}
+
+// the answer in place of a file that was not read
+fn stopped(alloc: Global, name: &str, stop: ReadStop) -> Result<Reply, NoMemory>
+    ensures { IfOk result (λ r. StopAnswers name.now stop r.status r.text.items) }
+{
+    match stop {
+        ReadStop::Long => {
+            let name = Text::of(alloc, name)?;
+            refused(alloc, &Refusal::Long { name })
+        }
+        ReadStop::Failed => Ok(Reply {
+            status: Status::ReadFault,
+            text: line(alloc, b"read fault ", name.as_bytes(), b"\n")?,
+        }),
+        ReadStop::Memory => Err(NoMemory),
+    }
+}
+
+// the answer to the two files of a shelf
+fn reply_to<F: Shelf>(alloc: Global, request: &Request, shelf: &mut F) -> Result<Reply, NoMemory>
+    ensures { IfOk result (λ r. MayWrite (F.holds shelf.old) (F.faults shelf.old) (F.faults shelf.new)
+        (shown_command request.now) r.status r.text.items) }
+{
+    let netlist = match read_whole(alloc, shelf, request.netlist) {
+        Ok(bytes) => bytes,
+        Err(stop) => return stopped(alloc, request.netlist, stop),
+    };
+    let labels = match read_whole(alloc, shelf, request.labels) {
+        Ok(bytes) => bytes,
+        Err(stop) => return stopped(alloc, request.labels, stop),
+    };
+    judged(alloc, request, netlist.as_slice(), labels.as_slice())
+}
+
+/// Judges a netlist with a label file, named by the first two words, for as many cycles as the third word says, and
+/// writes the report, a refusal or a fault.
+///
+/// Words outside the grammar give `Usage`. The other clauses say what is left in the sink: for each status which text,
+/// after a failed write a proper front of a text that could have been written whole, and nothing where memory was
+/// refused. Where the shelf does not tell a file, the answer is right for some bytes of it.
+pub fn check_run<F: Shelf, K: Sink>(
+    alloc: Global,
+    words: &[String],
+    shelf: &mut F,
+    out: &mut K,
+) -> Status
+    ensures usage { (result ≡ Status.Usage) ↔ (command (texts words.now) ≡ None) }
+    ensures untouched { result ≡ Status.Usage → (shelf.new ≡ shelf.old) × (out.new ≡ out.old) }
+    ensures read_fault { result ≡ Status.ReadFault → Rose (F.faults shelf.old) (F.faults shelf.new) }
+    ensures write_fault { result ≡ Status.WriteFault → Rose (K.faults out.old) (K.faults out.new) }
+    ensures no_memory { result ≡ Status.NoMemory → out.new ≡ out.old }
+    ensures never { result ≡ Status.Undecided → ⊥ }
+    ensures leaves { IfSome (command (texts words.now)) (λ c.
+        Leaves (MayWrite (F.holds shelf.old) (F.faults shelf.old) (F.faults shelf.new) c)
+        (K.taken out.old) (K.taken out.new) result) }
+{
+    let Some(request) = read_words(words) else {
+        return Status::Usage;
+    };
+    let Ok(reply) = reply_to(alloc, &request, shelf) else {
+        return Status::NoMemory;
+    };
+    match write_whole(out, reply.text.as_slice()) {
+        Ok(()) => reply.status,
+        Err(Failed) => Status::WriteFault,
+    }
+}

@@ -1,0 +1,4 @@
+pub mod Marked
+pub mod Verdicts
+pub mod Laws
+pub mod Texts

@@ -1,0 +1,13 @@
+//! Checks derivations, prints them and the clauses that they start from, and reads them.
+#![tactic(auto)]
+
+mod chain;
+pub mod laws;
+mod line;
+mod marks;
+pub mod print;
+pub mod verdict;
+
+pub use laws::refutations_are_sound;
+pub use print::{print_derivation, print_formula};
+pub use verdict::{Verdict, check};

@@ -1,0 +1,4 @@
+pub mod Flips
+pub mod Turned
+pub mod Agree
+pub mod Secrecy

@@ -1,0 +1,2 @@
+pub mod WideCones
+pub mod Laws
