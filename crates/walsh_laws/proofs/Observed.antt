@@ -12,7 +12,8 @@ use Rattle.coco_model.specs.Reach.{Reach, Reaches}
 use Rattle.coco_model.specs.Reach.Reaches.{here, through}
 use Rattle.coco_model.specs.Secure.{observation}
 use Rattle.coco_model.proofs.Basics.{Contains-here, Contains-later, Contains-cases, Contains-none}
-use Rattle.model_laws.proofs.Calms.{before_below, member_at}
+use Rattle.model_laws.proofs.Calms.{member_at}
+use Rattle.coco_model.proofs.Keepers.{before_below}
 use Rattle.model_laws.proofs.Lists.{IsJoined, joined_of_flat_map}
 
 -- a reached leaf is a bit of the netlist

@@ -17,7 +17,7 @@ use Rattle.coco_model.specs.Controls.{AreControlsKnown}
 use Rattle.coco_model.specs.Calm.{IsCalm}
 use Rattle.coco_model.specs.Reach.{Reach, IsReach, IsReachedRow}
 use Rattle.coco_model.specs.Roots.{Root, IsRooted}
-use Rattle.model_laws.proofs.Calms.{before_below}
+use Rattle.coco_model.proofs.Keepers.{before_below}
 use Rattle.model_laws.proofs.Unique.{one_known_law}
 use Rattle.model_laws.proofs.Meanings.{meaning_law}
 use Rattle.model_laws.specs.Laws.{IsChecked, OneKnownLaw, HasMeaning, MeaningLaw}

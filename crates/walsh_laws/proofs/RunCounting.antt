@@ -17,7 +17,8 @@ use Rattle.coco_model.specs.Roots.{Root}
 use Rattle.coco_model.specs.Roots.Root.{nothing}
 use Rattle.coco_model.specs.Secure.{IsProbe, count_showing}
 use Rattle.coco_model.specs.Findings.{Labels, IsSeen}
-use Rattle.model_laws.proofs.Calms.{vary_or_not, before_below}
+use Rattle.model_laws.proofs.Calms.{vary_or_not}
+use Rattle.coco_model.proofs.Keepers.{before_below}
 use Rattle.model_laws.proofs.Rooted.{root_law}
 use Rattle.model_laws.specs.Laws.{RootLaw, HasMeaning}
 use Rattle.walsh_laws.specs.Sums.{parity_below}

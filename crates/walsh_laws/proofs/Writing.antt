@@ -22,6 +22,7 @@ use Rattle.coco_model.specs.Secure.{IsProbe}
 use Rattle.coco_model.specs.Findings.{Labels, IsChosen, IsSelection, IsSeen, IsWhole, set_of_pairs, HasFinding}
 use Rattle.coco_model.specs.Nodes.{IsNodeSet, IsAllowedChoice, node_set, IsNodeSelection}
 use Rattle.coco_model.specs.WrittenFindings.{set_of_nodes, IsWrittenFinding, HasWrittenFinding}
+use Rattle.coco_model.proofs.Keepers.{before_below}
 use Rattle.model_laws.proofs.Unique.{one_rooted_law}
 use Rattle.model_laws.proofs.Reached.{one_reach_law}
 use Rattle.model_laws.proofs.Selected.{node_sets_law, root_sets_law}
@@ -47,14 +48,10 @@ cell_root_by row other root t c now old has = record {
   own = λ e n. has.own (ap (λ r. r c.output) now ∙ e) (λ k. n (kept_by row other root t c now old k));
 }
 
-before_within : (t cycles : ℕ) → t < cycles → before t < cycles
-before_within zero cycles h = h
-before_within (suc t) cycles h = omega arith
-
 rooted_by : (flat : Flat) (setup : Setup) (cycles : ℕ) (row other : ℕ → Row) (root : ℕ → ℕ → Root) (word : ℕ → ℕ → ℕ → Root) → ((t : ℕ) → t < cycles → row t ≡ other t)
     → IsRooted flat setup cycles row root word → IsRooted flat setup cycles other root word
 rooted_by flat setup cycles row other root word same is = record {
-  cells = λ t below c listed. cell_root_by row other root t c (same t below) (same (before t) (before_within t cycles below)) (is.cells t below c listed);
+  cells = λ t below c listed. cell_root_by row other root t c (same t below) (same (before t) (before_below t cycles below)) (is.cells t below c listed);
   carried = record {
     given = is.carried.given;
     first = is.carried.first;
