@@ -20,14 +20,16 @@ pub record IsListed {X : Type 0} (members : ℕ → Bool) (f : ℕ → X) (n : �
   pub member : members number ≡ true
   pub is : f number ≡ x
 
-pub listing-member : {X : Type 0} (members : ℕ → Bool) (f : ℕ → X) (n : ℕ) (x : X) → Contains (listing members f n) x → IsListed members f n x
+pub listing-member : {X : Type 0} (members : ℕ → Bool) (f : ℕ → X) (n : ℕ) (x : X) → Contains (listing members f n) x
+    → IsListed members f n x
 listing-member members f zero x h = absurd (Contains-none x h)
 listing-member members f (suc n) x h = go (members n) refl h (listing-member members f n x)
   where
     later : IsListed members f n x → IsListed members f (suc n) x
     later r = record { number = r.number; below = let e = r.below in omega arith; member = r.member; is = r.is }
 
-    go : (b : Bool) → members n ≡ b → Contains (cond b (f n ∷ listing members f n) (listing members f n)) x → (Contains (listing members f n) x → IsListed members f n x) → IsListed members f (suc n) x
+    go : (b : Bool) → members n ≡ b → Contains (cond b (f n ∷ listing members f n) (listing members f n)) x
+        → (Contains (listing members f n) x → IsListed members f n x) → IsListed members f (suc n) x
     go false e i rest = later (rest i)
     go true e i rest = first (Contains-cases (f n) x (listing members f n) i)
       where
@@ -35,15 +37,22 @@ listing-member members f (suc n) x h = go (members n) refl h (listing-member mem
         first (inl k) = record { number = n; below = omega arith; member = e; is = k }
         first (inr j) = later (rest j)
 
-pub listing-once : {X : Type 0} (members : ℕ → Bool) (f : ℕ → X) → ((i j : ℕ) → members i ≡ true → members j ≡ true → f i ≡ f j → i ≡ j) → (n : ℕ) → HasNoRepeat (listing members f n)
+pub listing-once : {X : Type 0} (members : ℕ → Bool) (f : ℕ → X) → ((i j : ℕ) → members i ≡ true → members j ≡ true → f i ≡ f j → i ≡ j)
+    → (n : ℕ) → HasNoRepeat (listing members f n)
 listing-once members f one zero = tt
 listing-once members f one (suc n) = go (members n) refl (listing-once members f one n)
   where
-    go : (b : Bool) → members n ≡ b → HasNoRepeat (listing members f n) → HasNoRepeat (cond b (f n ∷ listing members f n) (listing members f n))
+    go : (b : Bool) → members n ≡ b → HasNoRepeat (listing members f n)
+        → HasNoRepeat (cond b (f n ∷ listing members f n) (listing members f n))
     go false e rest = rest
-    go true e rest = ((λ h. let r = listing-member members f n (f n) h in let k = one r.number n r.member e r.is in let b = r.below in omega arith), rest)
+    go true e rest = (
+      (λ h. let r = listing-member members f n (f n) h in let k = one r.number n r.member e r.is in let b = r.below in
+          omega arith),
+      rest,
+    )
 
-pub listing-parity : {X : Type 0} (members : ℕ → Bool) (f : ℕ → X) (g : X → Bool) (n : ℕ) → parity (map g (listing members f n)) ≡ parity_below n members (λ i. g (f i))
+pub listing-parity : {X : Type 0} (members : ℕ → Bool) (f : ℕ → X) (g : X → Bool) (n : ℕ)
+    → parity (map g (listing members f n)) ≡ parity_below n members (λ i. g (f i))
 listing-parity members f g zero = refl
 listing-parity members f g (suc n) = go (members n) refl (listing-parity members f g n)
   where
@@ -57,7 +66,8 @@ pub parity-some : (n : ℕ) (members v : ℕ → Bool) → parity_below n member
 parity-some zero members v e = absurd (false≢true e)
 parity-some (suc n) members v e = go (cases_Bool (members n)) (parity-some n members v)
   where
-    go : (members n ≡ true) ⊎ (members n ≡ false) → (parity_below n members v ≡ true → (i : ℕ) × (i < n) × (members i ≡ true)) → (i : ℕ) × (i < suc n) × (members i ≡ true)
+    go : (members n ≡ true) ⊎ (members n ≡ false) → (parity_below n members v ≡ true → (i : ℕ) × (i < n) × (members i ≡ true))
+        → (i : ℕ) × (i < suc n) × (members i ≡ true)
     go (inl m) rest = (n, omega arith, m)
     go (inr m) rest = let r = rest (rw m at e) in (r.0, (let b = r.1 in omega arith), r.2)
 

@@ -26,11 +26,13 @@ member_of_odd : {X : Type 0} (f : X → Bool) (xs : List X) → parity (map f xs
 member_of_odd f [] e = absurd (false≢true e)
 member_of_odd f (x ∷ xs) e = (x, Contains-here x xs)
 
-module _ (flat : Flat) (setup : Setup) (cycles : ℕ) (rank : ℕ → ℕ) (m : HasMeaning flat setup cycles) (simulated : IsSimulated flat setup cycles rank m.row m.word) where
+module _ (flat : Flat) (setup : Setup) (cycles : ℕ) (rank : ℕ → ℕ) (m : HasMeaning flat setup cycles)
+    (simulated : IsSimulated flat setup cycles rank m.row m.word) where
   reached : AreReached flat setup cycles m.row m.reaches.calm m.reach
   reached = reached_of flat setup cycles rank m.row m.word simulated m.reach m.reaches
 
-  seen_pair : (probes : List Probe) → ((p : Probe) → Contains probes p → IsProbe flat setup cycles p) → (u : Probe) → IsSeen m.row m.reach probes u → IsPair flat cycles u
+  seen_pair : (probes : List Probe) → ((p : Probe) → Contains probes p → IsProbe flat setup cycles p) → (u : Probe)
+      → IsSeen m.row m.reach probes u → IsPair flat cycles u
   seen_pair probes each u s = record {
     bit = reached_inside flat (m.reaches.calm s.probe.cycle) u.bit s.probe.bit simulated.range
         (((reached.reached s.probe.cycle is_probe.cycle s.probe.bit is_probe.bit).1 u.bit).0 s.shows.reached) is_probe.bit;
@@ -43,7 +45,8 @@ module _ (flat : Flat) (setup : Setup) (cycles : ℕ) (rank : ℕ → ℕ) (m : 
   -- pairs that probes show, with a selection by which their set is whole and not empty, are a finding
   finding_of : (d : ℕ) (probes : List Probe) → length probes ≤ d → ((p : Probe) → Contains probes p → IsProbe flat setup cycles p)
       → (pairs : List Probe) → HasNoRepeat pairs → ((u : Probe) → Contains pairs u → IsSeen m.row m.reach probes u)
-      → (labels : Labels) → IsWhole setup.table labels → (l : ℕ) → labels l ≡ true → IsSetOfPairs flat cycles m.row m.root pairs labels → HasFinding flat setup cycles d
+      → (labels : Labels) → IsWhole setup.table labels → (l : ℕ) → labels l ≡ true → IsSetOfPairs flat cycles m.row m.root pairs labels
+      → HasFinding flat setup cycles d
   finding_of d probes few each pairs once seen labels whole l has r = go (once_of probes)
     where
       go : IsOnce probes → HasFinding flat setup cycles d
@@ -67,7 +70,8 @@ module _ (flat : Flat) (setup : Setup) (cycles : ℕ) (rank : ℕ → ℕ) (m : 
           each = λ p i. each p (o.from p i);
           different = o.once;
           once = once;
-          seen = λ u h. let s = seen u h in record { probe = s.probe; listed = o.into s.probe s.listed; shows = s.shows; unknown = s.unknown };
+          seen = λ u h. let s = seen u h in
+              record { probe = s.probe; listed = o.into s.probe s.listed; shows = s.shows; unknown = s.unknown };
           selection = r.selection;
           member = l;
           not_empty = sym (r.same l) ∙ has;
@@ -81,7 +85,8 @@ module _ (flat : Flat) (setup : Setup) (cycles : ℕ) (rank : ℕ → ℕ) (m : 
   pub secure_for : (d : ℕ) → (HasFinding flat setup cycles d → ⊥) → IsSecureFor flat setup cycles m.reach d
   unfolding IsSecureFor reached
   secure_for d none run memory runs probes few each =
-      run_counting flat setup cycles rank m.row m.word m.root m.rooted (ready_of flat setup cycles rank m.row m.word simulated m.root m.rooted m.roots)
+      run_counting flat setup cycles rank m.row m.word m.root m.rooted
+      (ready_of flat setup cycles rank m.row m.word simulated m.root m.rooted m.roots)
       m.reaches.calm m.reach reached run memory runs probes each (record { each = balanced })
     where
       balanced : (pairs : List Probe) → HasNoRepeat pairs → ((u : Probe) → Contains pairs u → IsSeen m.row m.reach probes u)
@@ -91,8 +96,10 @@ module _ (flat : Flat) (setup : Setup) (cycles : ℕ) (rank : ℕ → ℕ) (m : 
           go : Dec (correlation setup cycles pairs labels run ≡ pos 0) → correlation setup cycles pairs labels run ≡ pos 0
           go (yes e) = e
           go (no n) = absurd (none (finding_of d probes few each pairs once seen labels whole l has
-              (run_correlation flat setup cycles rank m.row m.word m.root m.rooted (ready_of flat setup cycles rank m.row m.word simulated m.root m.rooted m.roots) run memory runs pairs
-              (λ u h. seen_pair probes each u (seen u h)) labels (whole_outside setup.table simulated.bound_to.table cycles labels whole) n)))
+              (run_correlation flat setup cycles rank m.row m.word m.root m.rooted
+              (ready_of flat setup cycles rank m.row m.word simulated m.root m.rooted m.roots) run memory runs pairs
+              (λ u h. seen_pair probes each u (seen u h)) labels (whole_outside setup.table simulated.bound_to.table cycles labels whole)
+              n)))
 
 pub no_finding_law : NoFindingLaw
 unfolding NoFindingLaw SecureLaw

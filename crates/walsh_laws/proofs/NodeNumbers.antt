@@ -26,7 +26,8 @@ bit_is false = refl
 subset-number : (ss : Subset) → subset_of_number (length ss) (number_of_subset ss) ≡ ss
 subset-number [] = refl
 subset-number (s ∷ ss) =
-    ap (λ b. nat_eq b 1 ∷ subset_of_number (length ss) ((number_of_subset ss * 2 + cond s 1 0) / 2)) (mod-mul-add (number_of_subset ss) 2 (cond s 1 0) (bit_below s))
+    ap (λ b. nat_eq b 1 ∷ subset_of_number (length ss) ((number_of_subset ss * 2 + cond s 1 0) / 2))
+    (mod-mul-add (number_of_subset ss) 2 (cond s 1 0) (bit_below s))
     ∙ ap (λ n. nat_eq (cond s 1 0) 1 ∷ subset_of_number (length ss) n) (div-mul-add (number_of_subset ss) 2 (cond s 1 0) (bit_below s))
     ∙ ap (λ b. b ∷ subset_of_number (length ss) (number_of_subset ss)) (bit_is s) ∙ ap (λ rest. s ∷ rest) (subset-number ss)
 
@@ -64,27 +65,35 @@ pub record IsNumberFor (sets : ℕ → Labels) (i : ℕ) (node : Node) : Type 0 
   pub follows : (l : ℕ) → sets i l ≡ node_set sets number node l
   pub elsewhere : ((kind : Kind) (parts : List Part) (operands : List ℕ) → node ≢ Gate kind parts operands) → number ≡ 0
 
-pub number_for : (sets : ℕ → Labels) (i : ℕ) (node : Node) → ((kind : Kind) (parts : List Part) (operands : List ℕ) → node ≡ Gate kind parts operands → length parts ≡ 4)
+pub number_for : (sets : ℕ → Labels) (i : ℕ) (node : Node)
+    → ((kind : Kind) (parts : List Part) (operands : List ℕ) → node ≡ Gate kind parts operands → length parts ≡ 4)
     → IsNodeSet sets i node → IsNumberFor sets i node
 number_for sets i Nothing four set = record { number = 0; allowed = tt; follows = set; elsewhere = λ n. refl }
 number_for sets i (Label k) four set = record { number = 0; allowed = tt; follows = set; elsewhere = λ n. refl }
 number_for sets i (Copy j) four set = record { number = 0; allowed = tt; follows = set; elsewhere = λ n. refl }
 number_for sets i (Gate kind parts operands) four set = record {
   number = number_of_subset set.subset;
-  allowed = (subst (λ n. number_of_subset set.subset < 2 ^ n) as_many (number-below set.subset), subst (IsGateChoice kind parts) (sym same) set.choice);
+  allowed = (
+    subst (λ n. number_of_subset set.subset < 2 ^ n) as_many (number-below set.subset),
+    subst (IsGateChoice kind parts) (sym same)
+        set.choice,
+  );
   follows = λ l. set.set l ∙ ap (λ ss. chosen_set sets ss (input_places kind operands) l) (sym same);
   elsewhere = λ n. absurd (n kind parts operands refl);
 }
   where
     as_many : length set.subset ≡ input_count kind
-    as_many = set.choice.varies.as_long ∙ length-taken (input_count kind) parts (let e = four kind parts operands refl in let b = input_count-four kind in omega arith)
+    as_many = set.choice.varies.as_long
+        ∙ length-taken (input_count kind) parts (let e = four kind parts operands refl in let b = input_count-four kind in omega arith)
 
     same : subset_of_number (input_count kind) (number_of_subset set.subset) ≡ set.subset
     same = ap (λ n. subset_of_number n (number_of_subset set.subset)) (sym as_many) ∙ subset-number set.subset
 
 -- and back
-pub node_set_by : (sets : ℕ → Labels) (i number : ℕ) (node : Node) → IsAllowedChoice number node → ((l : ℕ) → sets i l ≡ node_set sets number node l) → IsNodeSet sets i node
+pub node_set_by : (sets : ℕ → Labels) (i number : ℕ) (node : Node) → IsAllowedChoice number node
+    → ((l : ℕ) → sets i l ≡ node_set sets number node l) → IsNodeSet sets i node
 node_set_by sets i number Nothing allowed follows = follows
 node_set_by sets i number (Label k) allowed follows = follows
 node_set_by sets i number (Copy j) allowed follows = follows
-node_set_by sets i number (Gate kind parts operands) allowed follows = record { subset = subset_of_number (input_count kind) number; choice = allowed.1; set = follows }
+node_set_by sets i number (Gate kind parts operands) allowed follows =
+    record { subset = subset_of_number (input_count kind) number; choice = allowed.1; set = follows }

@@ -36,18 +36,21 @@ shown_numbers index reach probes = flat_map (probe_numbers index reach) probes
 pub record AreNumbered (bits cycles : ℕ) (index : ℕ → ℕ → ℕ) (value : ℕ → Bool) (v : ℕ → Valuation) : Type 0 where
   pub each : (t b : ℕ) → t < cycles → b < bits → value (index t b) ≡ v t b
 
-leaves_observed : (bits cycles : ℕ) (index : ℕ → ℕ → ℕ) (value : ℕ → Bool) (v : ℕ → Valuation) → AreNumbered bits cycles index value v → (t : ℕ) → t < cycles
+leaves_observed : (bits cycles : ℕ) (index : ℕ → ℕ → ℕ) (value : ℕ → Bool) (v : ℕ → Valuation) → AreNumbered bits cycles index value v
+    → (t : ℕ) → t < cycles
     → (leaves : List ℕ) → ((l : ℕ) → Contains leaves l → l < bits)
     → flat_map (λ l. v (before t) l ∷ v t l ∷ []) leaves ≡ map value (flat_map (leaf_numbers index t) leaves)
 leaves_observed bits cycles index value v numbered t below [] inside = refl
 leaves_observed bits cycles index value v numbered t below (l ∷ leaves) inside =
-    let a : value (index (before t) l) ≡ v (before t) l = numbered.each (before t) l (before_below t cycles below) (inside l (Contains-here l leaves)) in
+    let a : value (index (before t) l)
+    ≡ v (before t) l = numbered.each (before t) l (before_below t cycles below) (inside l (Contains-here l leaves)) in
     let b : value (index t l) ≡ v t l = numbered.each t l below (inside l (Contains-here l leaves)) in
     let c : flat_map (λ l. v (before t) l ∷ v t l ∷ []) leaves ≡ map value (flat_map (leaf_numbers index t) leaves) =
     leaves_observed bits cycles index value v numbered t below leaves (λ k h. inside k (Contains-later l k leaves h)) in
     rw (a, b, c) refl
 
-pub observed : (bits cycles : ℕ) (index : ℕ → ℕ → ℕ) (value : ℕ → Bool) (v : ℕ → Valuation) → AreNumbered bits cycles index value v → (reach : Reach) (probes : List Probe)
+pub observed : (bits cycles : ℕ) (index : ℕ → ℕ → ℕ) (value : ℕ → Bool) (v : ℕ → Valuation) → AreNumbered bits cycles index value v
+    → (reach : Reach) (probes : List Probe)
     → ((p : Probe) → Contains probes p → (p.cycle < cycles) × ((l : ℕ) → Contains (reach p.cycle p.bit) l → l < bits))
     → observation reach v probes ≡ map value (shown_numbers index reach probes)
 observed bits cycles index value v numbered reach [] inside = refl
@@ -70,7 +73,8 @@ pub record IsShownNumber (index : ℕ → ℕ → ℕ) (reach : Reach) (probes :
   pub when : (cycle ≡ probe.cycle) ⊎ (cycle ≡ before probe.cycle)
   pub number : index cycle leaf ≡ i
 
-pub shown_number : (index : ℕ → ℕ → ℕ) (reach : Reach) (probes : List Probe) (i : ℕ) → Contains (shown_numbers index reach probes) i → IsShownNumber index reach probes i
+pub shown_number : (index : ℕ → ℕ → ℕ) (reach : Reach) (probes : List Probe) (i : ℕ) → Contains (shown_numbers index reach probes) i
+    → IsShownNumber index reach probes i
 shown_number index reach probes i h = go (joined_of_flat_map (probe_numbers index reach) probes i h)
   where
     go : IsJoined (probe_numbers index reach) probes i → IsShownNumber index reach probes i
@@ -80,11 +84,29 @@ shown_number index reach probes i h = go (joined_of_flat_map (probe_numbers inde
         at_leaf l = at_cycle (Contains-cases (index (before p.source.cycle) l.source) i (index p.source.cycle l.source ∷ []) l.member)
           where
             later : (index p.source.cycle l.source ≡ i) ⊎ Contains [] i → IsShownNumber index reach probes i
-            later (inl e) = record { probe = p.source; listed = p.listed; leaf = l.source; cycle = p.source.cycle; reached = l.listed; when = inl refl; number = e }
+            later (inl e) = record {
+              probe = p.source;
+              listed = p.listed;
+              leaf = l.source;
+              cycle = p.source.cycle;
+              reached = l.listed;
+              when = inl refl;
+              number = e;
+            }
             later (inr none) = absurd (Contains-none i none)
 
-            at_cycle : (index (before p.source.cycle) l.source ≡ i) ⊎ Contains (index p.source.cycle l.source ∷ []) i → IsShownNumber index reach probes i
-            at_cycle (inl e) = record { probe = p.source; listed = p.listed; leaf = l.source; cycle = before p.source.cycle; reached = l.listed; when = inr refl; number = e }
+            at_cycle : (index (before p.source.cycle) l.source ≡ i) ⊎ Contains (index p.source.cycle l.source ∷ []) i
+                → IsShownNumber index reach probes i
+            at_cycle (inl e) = record {
+              probe = p.source;
+              listed = p.listed;
+              leaf = l.source;
+              cycle = before p.source.cycle;
+              reached =
+                  l.listed;
+              when = inr refl;
+              number = e;
+            }
             at_cycle (inr j) = later (Contains-cases (index p.source.cycle l.source) i [] j)
 
 -- the cycle before is shown too

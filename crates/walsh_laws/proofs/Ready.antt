@@ -25,7 +25,8 @@ use Rattle.walsh_laws.specs.Security.{IsSimulated}
 use Rattle.walsh_laws.proofs.RunNodes.{IsReady}
 
 -- a default and the members of a list are good, so what is read from it is
-read_good : (P : Start → Type 0) (starts : List Start) (i : ℕ) → P (Public false) → ((s : Start) → Contains starts s → P s) → P (get_or starts i (Public false))
+read_good : (P : Start → Type 0) (starts : List Start) (i : ℕ) → P (Public false) → ((s : Start) → Contains starts s → P s)
+    → P (get_or starts i (Public false))
 read_good P starts i other all = go (cases_lt i (length starts))
   where
     go : (i < length starts) ⊎ (length starts ≤ i) → P (get_or starts i (Public false))
@@ -39,7 +40,8 @@ bound_starts flat setup bound_to = record {
   words = λ w h k. read_good (IsLabelled setup.table) w.bits k tt (bound_to.word_labels w h);
 }
 
-pub checked_of : (flat : Flat) (setup : Setup) (cycles : ℕ) (rank : ℕ → ℕ) (row : ℕ → Row) (word : ℕ → ℕ → Row) → IsSimulated flat setup cycles rank row word
+pub checked_of : (flat : Flat) (setup : Setup) (cycles : ℕ) (rank : ℕ → ℕ) (row : ℕ → Row) (word : ℕ → ℕ → Row)
+    → IsSimulated flat setup cycles rank row word
     → IsChecked flat setup cycles rank row word
 checked_of flat setup cycles rank row word simulated = record {
   ranked = simulated.ranked;
@@ -49,8 +51,10 @@ checked_of flat setup cycles rank row word simulated = record {
   controls = simulated.controls;
 }
 
-pub ready_of : (flat : Flat) (setup : Setup) (cycles : ℕ) (rank : ℕ → ℕ) (row : ℕ → Row) (word : ℕ → ℕ → Row) → IsSimulated flat setup cycles rank row word
-    → (root : ℕ → ℕ → Root) (rooted : ℕ → ℕ → ℕ → Root) → IsRooted flat setup cycles row root rooted → IsReady flat setup cycles rank row word root rooted
+pub ready_of : (flat : Flat) (setup : Setup) (cycles : ℕ) (rank : ℕ → ℕ) (row : ℕ → Row) (word : ℕ → ℕ → Row)
+    → IsSimulated flat setup cycles rank row word
+    → (root : ℕ → ℕ → Root) (rooted : ℕ → ℕ → ℕ → Root) → IsRooted flat setup cycles row root rooted
+    → IsReady flat setup cycles rank row word root rooted
 ready_of flat setup cycles rank row word simulated root rooted is_rooted = record {
   checked = checked_of flat setup cycles rank row word simulated;
   range = simulated.range;
@@ -60,19 +64,24 @@ ready_of flat setup cycles rank row word simulated root rooted is_rooted = recor
   is_rooted = is_rooted;
 }
 
-pub meaning_of : (flat : Flat) (setup : Setup) (cycles : ℕ) (rank : ℕ → ℕ) (row : ℕ → Row) (word : ℕ → ℕ → Row) → IsSimulated flat setup cycles rank row word → HasMeaning flat setup cycles
+pub meaning_of : (flat : Flat) (setup : Setup) (cycles : ℕ) (rank : ℕ → ℕ) (row : ℕ → Row) (word : ℕ → ℕ → Row)
+    → IsSimulated flat setup cycles rank row word → HasMeaning flat setup cycles
 unfolding MeaningLaw
-meaning_of flat setup cycles rank row word simulated = meaning_law flat setup cycles rank simulated.ranked simulated.bound_to.bound simulated.driven simulated.range
+meaning_of flat setup cycles rank row word simulated = meaning_law flat setup cycles rank simulated.ranked simulated.bound_to.bound
+    simulated.driven simulated.range
 
 -- what is known is one
-pub same_row : (flat : Flat) (setup : Setup) (cycles : ℕ) (rank : ℕ → ℕ) (row : ℕ → Row) (word : ℕ → ℕ → Row) → IsSimulated flat setup cycles rank row word
+pub same_row : (flat : Flat) (setup : Setup) (cycles : ℕ) (rank : ℕ → ℕ) (row : ℕ → Row) (word : ℕ → ℕ → Row)
+    → IsSimulated flat setup cycles rank row word
     → (other : ℕ → Row) (others : ℕ → ℕ → Row) → IsKnown flat setup cycles other others → (t : ℕ) → t < cycles → row t ≡ other t
 unfolding OneKnownLaw
 same_row flat setup cycles rank row word simulated other others known t below =
-    fun_ext (one_known_law flat setup cycles rank simulated.ranked simulated.bound_to.bound row other word others simulated.known known t below)
+    fun_ext (one_known_law flat setup cycles rank simulated.ranked simulated.bound_to.bound row other word others simulated.known known t
+    below)
 
 -- a simulation with other rows, which are the same in every cycle
-pub simulated_by : (flat : Flat) (setup : Setup) (cycles : ℕ) (rank : ℕ → ℕ) (row : ℕ → Row) (word : ℕ → ℕ → Row) → IsSimulated flat setup cycles rank row word
+pub simulated_by : (flat : Flat) (setup : Setup) (cycles : ℕ) (rank : ℕ → ℕ) (row : ℕ → Row) (word : ℕ → ℕ → Row)
+    → IsSimulated flat setup cycles rank row word
     → (other : ℕ → Row) (others : ℕ → ℕ → Row) → IsKnown flat setup cycles other others → IsSimulated flat setup cycles rank other others
 simulated_by flat setup cycles rank row word simulated other others known = record {
   ranked = simulated.ranked;
@@ -80,7 +89,8 @@ simulated_by flat setup cycles rank row word simulated other others known = reco
   range = simulated.range;
   bound_to = simulated.bound_to;
   known = known;
-  controls = λ t below. subst (AreControlsKnown setup) (same_row flat setup cycles rank row word simulated other others known t below) (simulated.controls t below);
+  controls = λ t below. subst (AreControlsKnown setup) (same_row flat setup cycles rank row word simulated other others known t below)
+      (simulated.controls t below);
 }
 
 -- what is calm in a run and what each bit reaches
@@ -88,7 +98,8 @@ pub record AreReached (flat : Flat) (setup : Setup) (cycles : ℕ) (row calm : �
   pub still : (t : ℕ) → t < cycles → IsCalm flat (row (before t)) (row t) (calm t)
   pub reached : (t : ℕ) → t < cycles → IsReachedRow flat (calm t) (reach t)
 
-pub reached_of : (flat : Flat) (setup : Setup) (cycles : ℕ) (rank : ℕ → ℕ) (row : ℕ → Row) (word : ℕ → ℕ → Row) → IsSimulated flat setup cycles rank row word
+pub reached_of : (flat : Flat) (setup : Setup) (cycles : ℕ) (rank : ℕ → ℕ) (row : ℕ → Row) (word : ℕ → ℕ → Row)
+    → IsSimulated flat setup cycles rank row word
     → (reach : Reach) → (is : IsReach flat setup cycles reach) → AreReached flat setup cycles row is.calm reach
 reached_of flat setup cycles rank row word simulated reach is = record {
   still = λ t below. subst (λ r. IsCalm flat r (row t) (is.calm t)) (sym (same (before t) (before_below t cycles below)))

@@ -40,13 +40,16 @@ parity-numbers : {X : Type 0} (n : ℕ) (number : X → ℕ) (xs : List X) (v : 
 parity-numbers n number [] v below = parity_none n (numbers_in number []) v (λ i h. refl)
 parity-numbers n number (x ∷ xs) v below =
     parity-xor n (λ i. nat_eq (number x) i) (numbers_in number xs) v
-    ∙ rw (parity_one n (number x) v (below x (Contains-here x xs)), parity-numbers n number xs v (λ y h. below y (Contains-later x y xs h))) refl
+    ∙ rw (parity_one n (number x) v (below x (Contains-here x xs)), parity-numbers n number xs v (λ y h. below y (Contains-later x y xs h)))
+    refl
 
-module _ (flat : Flat) (setup : Setup) (cycles : ℕ) (rank : ℕ → ℕ) (row : ℕ → Row) (word : ℕ → ℕ → Row) (root : ℕ → ℕ → Root) (rooted : ℕ → ℕ → ℕ → Root)
+module _ (flat : Flat) (setup : Setup) (cycles : ℕ) (rank : ℕ → ℕ) (row : ℕ → Row) (word : ℕ → ℕ → Row) (root : ℕ → ℕ → Root)
+    (rooted : ℕ → ℕ → ℕ → Root)
     (ready : IsReady flat setup cycles rank row word root rooted) where
   pub output_not_later : (t b s c : ℕ) → t < cycles → root t b ≡ output s c → s ≤ t
   unfolding RootLaw
-  output_not_later t b s c below e = go ((root_law flat setup cycles rank row word ready.checked ready.starts root rooted ready.is_rooted t b below).3.earlier s c e)
+  output_not_later t b s c below e = go ((root_law flat setup cycles rank row word ready.checked ready.starts root rooted ready.is_rooted t
+      b below).3.earlier s c e)
     where
       go : (s < t) ⊎ ((s ≡ t) × (c ≡ b)) → s ≤ t
       go (inl lt) = omega arith
@@ -69,17 +72,21 @@ module _ (flat : Flat) (setup : Setup) (cycles : ℕ) (rank : ℕ → ℕ) (row 
       below u h = number-inside flat.bits rank cycles u.cycle u.bit (inside u h).cycle (inside u h).bit
 
       odd : (c : Choice) → is_odd_in_run pairs (label_count setup.table cycles) labels run c
-          ≡ is_odd (number_count flat.bits rank cycles) (numbers_in pair_number pairs) (label_count setup.table cycles) labels (run_values flat cycles rank run) c
+          ≡ is_odd (number_count flat.bits rank cycles) (numbers_in pair_number pairs) (label_count setup.table cycles) labels
+          (run_values flat cycles rank run) c
       odd c = ap (λ b. xor b (parity_below (label_count setup.table cycles) labels (label_bit c)))
           (ap parity (map-cong (λ (u : Probe). run c u.cycle u.bit) (λ u. run_values flat cycles rank run c (pair_number u)) pairs
           (λ u h. sym (value_at flat setup cycles rank row word root rooted ready run c u.cycle u.bit (inside u h).cycle (inside u h).bit)))
           ∙ sym (parity-numbers (number_count flat.bits rank cycles) pair_number pairs (run_values flat cycles rank run c) below))
 
       selected : IsSelected (number_count flat.bits rank cycles) (run_nodes flat cycles rank row root) members labels
-      selected = correlation_law (number_count flat.bits rank cycles) (run_nodes flat cycles rank row root) (label_count setup.table cycles) (run_values flat cycles rank run)
-          (are_values flat setup cycles rank row word root rooted ready run memory runs) members labels outside (λ e. k (sign_total-cong _ _ odd (choices (label_count setup.table cycles)) ∙ e))
+      selected = correlation_law (number_count flat.bits rank cycles) (run_nodes flat cycles rank row root) (label_count setup.table cycles)
+          (run_values flat cycles rank run)
+          (are_values flat setup cycles rank row word root rooted ready run memory runs) members labels outside
+          (λ e. k (sign_total-cong _ _ odd (choices (label_count setup.table cycles)) ∙ e))
 
-      go : IsSelected (number_count flat.bits rank cycles) (run_nodes flat cycles rank row root) (numbers_in pair_number pairs) labels → IsSetOfPairs flat cycles row root pairs labels
+      go : IsSelected (number_count flat.bits rank cycles) (run_nodes flat cycles rank row root) (numbers_in pair_number pairs) labels
+          → IsSetOfPairs flat cycles row root pairs labels
       go r = by_roots (root_sets_law flat cycles (index_of flat rank) row root (run_nodes flat cycles rank row root)
           (are_nodes flat setup cycles rank row word root rooted ready) ready.range ready.driven output_not_later r.sets
           (λ t b within_run inside. r.selection (index_of flat rank t b) (number-inside flat.bits rank cycles t b within_run inside)))
@@ -89,7 +96,8 @@ module _ (flat : Flat) (setup : Setup) (cycles : ℕ) (rank : ℕ → ℕ) (row 
             set_of = h.set_of;
             selection = h.selection;
             same = λ l. r.difference l ∙ parity-numbers (number_count flat.bits rank cycles) pair_number pairs (λ i. r.sets i l) below
-                ∙ ap parity (map-cong (λ u. r.sets (pair_number u) l) (λ (u : Probe). h.set_of (root u.cycle u.bit) l) pairs (λ u i. h.same u.cycle u.bit l (inside u i).cycle (inside u i).bit));
+                ∙ ap parity (map-cong (λ u. r.sets (pair_number u) l) (λ (u : Probe). h.set_of (root u.cycle u.bit) l) pairs
+                (λ u i. h.same u.cycle u.bit l (inside u i).cycle (inside u i).bit));
           }
 
 pub run_correlation_law : RunCorrelationLaw

@@ -33,10 +33,13 @@ use Rattle.walsh_laws.proofs.Listing.{listing, IsListed, listing-member, listing
 use Rattle.walsh_laws.proofs.Observed.{reached_inside, shown_numbers, AreNumbered, observed, IsShownNumber, shown_number, shows_when}
 use Rattle.walsh_laws.proofs.Ready.{AreReached, reached_of, ready_of, meaning_of, same_row, simulated_by}
 
-module _ (flat : Flat) (setup : Setup) (cycles : ℕ) (rank : ℕ → ℕ) (row : ℕ → Row) (word : ℕ → ℕ → Row) (root : ℕ → ℕ → Root) (rooted : ℕ → ℕ → ℕ → Root)
-    (ready : IsReady flat setup cycles rank row word root rooted) (calm : ℕ → Row) (reach : Reach) (reached : AreReached flat setup cycles row calm reach) where
+module _ (flat : Flat) (setup : Setup) (cycles : ℕ) (rank : ℕ → ℕ) (row : ℕ → Row) (word : ℕ → ℕ → Row) (root : ℕ → ℕ → Root)
+    (rooted : ℕ → ℕ → ℕ → Root)
+    (ready : IsReady flat setup cycles rank row word root rooted) (calm : ℕ → Row) (reach : Reach)
+    (reached : AreReached flat setup cycles row calm reach) where
   leaf_inside : (p : Probe) → IsProbe flat setup cycles p → (l : ℕ) → Contains (reach p.cycle p.bit) l → l < flat.bits
-  leaf_inside p is l h = reached_inside flat (calm p.cycle) l p.bit ready.range (((reached.reached p.cycle is.cycle p.bit is.bit).1 l).0 h) is.bit
+  leaf_inside p is l h = reached_inside flat (calm p.cycle) l p.bit ready.range (((reached.reached p.cycle is.cycle p.bit is.bit).1 l).0 h)
+      is.bit
 
   pair_at : ℕ → Probe
   pair_at = at_number flat.bits rank cycles (λ t b. record { bit = b; cycle = t }) (record { bit = 0; cycle = 0 })
@@ -54,7 +57,8 @@ module _ (flat : Flat) (setup : Setup) (cycles : ℕ) (rank : ℕ → ℕ) (row 
     below : cycle < cycles
     inside : leaf < flat.bits
 
-  seen_number : (probes : List Probe) → ((p : Probe) → Contains probes p → IsProbe flat setup cycles p) → (i : ℕ) → Contains (shown_numbers (index_of flat rank) reach probes) i
+  seen_number : (probes : List Probe) → ((p : Probe) → Contains probes p → IsProbe flat setup cycles p) → (i : ℕ)
+      → Contains (shown_numbers (index_of flat rank) reach probes) i
       → IsSeenNumber probes i
   seen_number probes each i h = go (shown_number (index_of flat rank) reach probes i h)
     where
@@ -80,7 +84,8 @@ module _ (flat : Flat) (setup : Setup) (cycles : ℕ) (rank : ℕ → ℕ) (row 
   unfolding pair_at
   pair_is probes i s =
       ap (at_number flat.bits rank cycles (λ t b. record { bit = b; cycle = t }) (record { bit = 0; cycle = 0 })) (sym s.number)
-      ∙ at_number-number flat.bits rank cycles (λ t b. record { bit = b; cycle = t }) (record { bit = 0; cycle = 0 }) s.cycle s.leaf s.below s.inside
+      ∙ at_number-number flat.bits rank cycles (λ t b. record { bit = b; cycle = t }) (record { bit = 0; cycle = 0 }) s.cycle s.leaf s.below
+      s.inside
 
   pair_one : (probes : List Probe) (i j : ℕ) → IsSeenNumber probes i → IsSeenNumber probes j → pair_at i ≡ pair_at j → i ≡ j
   pair_one probes i j s u e =
@@ -91,7 +96,8 @@ module _ (flat : Flat) (setup : Setup) (cycles : ℕ) (rank : ℕ → ℕ) (row 
   nothing_if_known t b below = (root_law flat setup cycles rank row word ready.checked ready.starts root rooted ready.is_rooted t b below).1
 
   -- a node that is not nothing is of an unknown bit
-  unknown_node : (t b : ℕ) → t < cycles → b < flat.bits → run_nodes flat cycles rank row root (index_of flat rank t b) ≢ Nothing → row t b ≡ Vary
+  unknown_node : (t b : ℕ) → t < cycles → b < flat.bits → run_nodes flat cycles rank row root (index_of flat rank t b) ≢ Nothing
+      → row t b ≡ Vary
   unknown_node t b below inside n = go (vary_or_not (row t b))
     where
       go : (row t b ≡ Vary) ⊎ (row t b ≢ Vary) → row t b ≡ Vary
@@ -100,20 +106,26 @@ module _ (flat : Flat) (setup : Setup) (cycles : ℕ) (rank : ℕ → ℕ) (row 
 
   -- shown nodes correlate with no secret bits where the pairs that they stand for do not
   uncorrelated : (run : Choice → ℕ → Valuation) (memory : Choice → ℕ → Memory) → AreRuns flat setup cycles run memory
-      → (probes : List Probe) → ((p : Probe) → Contains probes p → IsProbe flat setup cycles p) → IsRunUncorrelated setup cycles row reach run probes
-      → IsUncorrelated setup.table cycles (number_count flat.bits rank cycles) (run_nodes flat cycles rank row root) (run_values flat cycles rank run) (shown_numbers (index_of flat rank) reach probes)
+      → (probes : List Probe) → ((p : Probe) → Contains probes p → IsProbe flat setup cycles p)
+      → IsRunUncorrelated setup cycles row reach run probes
+      → IsUncorrelated setup.table cycles (number_count flat.bits rank cycles) (run_nodes flat cycles rank row root)
+      (run_values flat cycles rank run) (shown_numbers (index_of flat rank) reach probes)
   uncorrelated run memory runs probes each none = record {
-    each = λ members are_shown labels whole l has. sign_total-cong _ _ (odd members are_shown labels) (choices (label_count setup.table cycles))
+    each = λ members are_shown labels whole l has. sign_total-cong _ _ (odd members are_shown labels)
+        (choices (label_count setup.table cycles))
         ∙ none.each (listing members pair_at (number_count flat.bits rank cycles))
-        (listing-once members pair_at (λ i j a b e. pair_one probes i j (seen members are_shown i a) (seen members are_shown j b) e) (number_count flat.bits rank cycles))
+        (listing-once members pair_at (λ i j a b e. pair_one probes i j (seen members are_shown i a) (seen members are_shown j b) e)
+        (number_count flat.bits rank cycles))
         (λ u h. is_seen members are_shown u (listing-member members pair_at (number_count flat.bits rank cycles) u h)) labels whole l has;
   }
     where
-      seen : (members : ℕ → Bool) → IsShownSet (shown_numbers (index_of flat rank) reach probes) (run_nodes flat cycles rank row root) members
+      seen : (members : ℕ → Bool)
+          → IsShownSet (shown_numbers (index_of flat rank) reach probes) (run_nodes flat cycles rank row root) members
           → (i : ℕ) → members i ≡ true → IsSeenNumber probes i
       seen members are_shown i e = seen_number probes each i (are_shown.shown_nodes i e)
 
-      is_seen : (members : ℕ → Bool) → IsShownSet (shown_numbers (index_of flat rank) reach probes) (run_nodes flat cycles rank row root) members
+      is_seen : (members : ℕ → Bool)
+          → IsShownSet (shown_numbers (index_of flat rank) reach probes) (run_nodes flat cycles rank row root) members
           → (u : Probe) → IsListed members pair_at (number_count flat.bits rank cycles) u → IsSeen row reach probes u
       is_seen members are_shown u l = go (seen members are_shown l.number l.member)
         where
@@ -122,28 +134,37 @@ module _ (flat : Flat) (setup : Setup) (cycles : ℕ) (rank : ℕ → ℕ) (row 
             probe = s.probe;
             listed = s.listed;
             shows = record { reached = s.from; when = s.when };
-            unknown = unknown_node s.cycle s.leaf s.below s.inside (λ e. are_shown.unknown l.number l.member (ap (run_nodes flat cycles rank row root) (sym s.number) ∙ e));
+            unknown = unknown_node s.cycle s.leaf s.below s.inside
+                (λ e. are_shown.unknown l.number l.member (ap (run_nodes flat cycles rank row root) (sym s.number) ∙ e));
           })
 
-      value_of : (run : Choice → ℕ → Valuation) (c : Choice) (i : ℕ) → IsSeenNumber probes i → run_values flat cycles rank run c i ≡ run c (pair_at i).cycle (pair_at i).bit
-      value_of run c i s = ap (run_values flat cycles rank run c) (sym s.number) ∙ value_at flat setup cycles rank row word root rooted ready run c s.cycle s.leaf s.below s.inside
+      value_of : (run : Choice → ℕ → Valuation) (c : Choice) (i : ℕ) → IsSeenNumber probes i
+          → run_values flat cycles rank run c i ≡ run c (pair_at i).cycle (pair_at i).bit
+      value_of run c i s = ap (run_values flat cycles rank run c) (sym s.number)
+          ∙ value_at flat setup cycles rank row word root rooted ready run c s.cycle s.leaf s.below s.inside
           ∙ ap (λ (p : Probe). run c p.cycle p.bit) (sym (pair_is probes i s))
 
-      odd : (members : ℕ → Bool) → IsShownSet (shown_numbers (index_of flat rank) reach probes) (run_nodes flat cycles rank row root) members → (labels : Labels) → (c : Choice)
+      odd : (members : ℕ → Bool)
+          → IsShownSet (shown_numbers (index_of flat rank) reach probes) (run_nodes flat cycles rank row root) members → (labels : Labels)
+          → (c : Choice)
           → is_odd (number_count flat.bits rank cycles) members (label_count setup.table cycles) labels (run_values flat cycles rank run) c
           ≡ is_odd_in_run (listing members pair_at (number_count flat.bits rank cycles)) (label_count setup.table cycles) labels run c
       odd members are_shown labels c = ap (λ b. xor b (parity_below (label_count setup.table cycles) labels (label_bit c)))
-          (parity-cong_members (number_count flat.bits rank cycles) members (run_values flat cycles rank run c) (λ i. run c (pair_at i).cycle (pair_at i).bit)
+          (parity-cong_members (number_count flat.bits rank cycles) members (run_values flat cycles rank run c)
+          (λ i. run c (pair_at i).cycle (pair_at i).bit)
           (λ i h e. value_of run c i (seen members are_shown i e))
           ∙ sym (listing-parity members pair_at (λ (u : Probe). run c u.cycle u.bit) (number_count flat.bits rank cycles)))
 
   pub run_counting : (run : Choice → ℕ → Valuation) (memory : Choice → ℕ → Memory) → AreRuns flat setup cycles run memory
-      → (probes : List Probe) → ((p : Probe) → Contains probes p → IsProbe flat setup cycles p) → IsRunUncorrelated setup cycles row reach run probes
+      → (probes : List Probe) → ((p : Probe) → Contains probes p → IsProbe flat setup cycles p)
+      → IsRunUncorrelated setup cycles row reach run probes
       → (secrets others : List Bool) → length secrets ≡ secret_bit_count setup.table → length others ≡ secret_bit_count setup.table
-      → (seen : List Bool) → count_showing setup cycles reach run probes secrets seen ≡ count_showing setup cycles reach run probes others seen
+      → (seen : List Bool) → count_showing setup cycles reach run probes secrets seen
+      ≡ count_showing setup cycles reach run probes others seen
   unfolding CountingLaw
   run_counting run memory runs probes each none secrets others e f seen =
-      by_values secrets ∙ counting_law setup.table cycles ready.table (number_count flat.bits rank cycles) (run_nodes flat cycles rank row root) (run_values flat cycles rank run)
+      by_values secrets ∙ counting_law setup.table cycles ready.table (number_count flat.bits rank cycles)
+      (run_nodes flat cycles rank row root) (run_values flat cycles rank run)
       (are_values flat setup cycles rank row word root rooted ready run memory runs) (shown_numbers (index_of flat rank) reach probes) below
       (uncorrelated run memory runs probes each none) secrets others e f seen ∙ sym (by_values others)
     where
@@ -151,18 +172,24 @@ module _ (flat : Flat) (setup : Setup) (cycles : ℕ) (rank : ℕ → ℕ) (row 
       below i h = go (seen_number probes each i h)
         where
           go : IsSeenNumber probes i → i < number_count flat.bits rank cycles
-          go s = subst (λ j. j < number_count flat.bits rank cycles) s.number (number-inside flat.bits rank cycles s.cycle s.leaf s.below s.inside)
+          go s = subst (λ j. j < number_count flat.bits rank cycles) s.number
+              (number-inside flat.bits rank cycles s.cycle s.leaf s.below s.inside)
 
       numbered : (c : Choice) → AreNumbered flat.bits cycles (index_of flat rank) (run_values flat cycles rank run c) (run c)
       numbered c = record { each = value_at flat setup cycles rank row word root rooted ready run c }
 
-      by_values : (given : List Bool) → count_showing setup cycles reach run probes given seen ≡ count_with_values setup.table cycles (run_values flat cycles rank run) (shown_numbers (index_of flat rank) reach probes) given seen
+      by_values : (given : List Bool)
+          → count_showing setup cycles reach run probes given seen
+          ≡ count_with_values setup.table cycles (run_values flat cycles rank run) (shown_numbers (index_of flat rank) reach probes) given
+          seen
       by_values given = ap length (filter_agree _ _ (λ c. ap (λ bs. same_bits bs seen)
-          (observed flat.bits cycles (index_of flat rank) (run_values flat cycles rank run c) (run c) (numbered c) reach probes (λ p h. ((each p h).cycle, leaf_inside p (each p h)))))
+          (observed flat.bits cycles (index_of flat rank) (run_values flat cycles rank run c) (run c) (numbered c) reach probes
+          (λ p h. ((each p h).cycle, leaf_inside p (each p h)))))
           (choices_with setup.table cycles given))
 
 -- a pair that is shown is of a cycle of the run
-pub seen_cycle : (flat : Flat) (setup : Setup) (cycles : ℕ) (row : ℕ → Row) (reach : Reach) (probes : List Probe) → ((p : Probe) → Contains probes p → IsProbe flat setup cycles p)
+pub seen_cycle : (flat : Flat) (setup : Setup) (cycles : ℕ) (row : ℕ → Row) (reach : Reach) (probes : List Probe)
+    → ((p : Probe) → Contains probes p → IsProbe flat setup cycles p)
     → (u : Probe) → IsSeen row reach probes u → u.cycle < cycles
 seen_cycle flat setup cycles row reach probes each u s = go s.shows.when
   where
@@ -172,11 +199,15 @@ seen_cycle flat setup cycles row reach probes each u s = go s.shows.when
 
 pub run_counting_law : RunCountingLaw
 unfolding RunCountingLaw
-run_counting_law flat setup cycles rank row word simulated reach is run memory runs probes each none = go (meaning_of flat setup cycles rank row word simulated)
+run_counting_law flat setup cycles rank row word simulated reach is run memory runs probes each none = go
+    (meaning_of flat setup cycles rank row word simulated)
   where
-    go : HasMeaning flat setup cycles → (secrets others : List Bool) → length secrets ≡ secret_bit_count setup.table → length others ≡ secret_bit_count setup.table
-        → (seen : List Bool) → count_showing setup cycles reach run probes secrets seen ≡ count_showing setup cycles reach run probes others seen
-    go m = run_counting flat setup cycles rank m.row m.word m.root m.rooted (ready_of flat setup cycles rank m.row m.word again m.root m.rooted m.roots)
+    go : HasMeaning flat setup cycles → (secrets others : List Bool) → length secrets ≡ secret_bit_count setup.table
+        → length others ≡ secret_bit_count setup.table
+        → (seen : List Bool) → count_showing setup cycles reach run probes secrets seen
+        ≡ count_showing setup cycles reach run probes others seen
+    go m = run_counting flat setup cycles rank m.row m.word m.root m.rooted
+        (ready_of flat setup cycles rank m.row m.word again m.root m.rooted m.roots)
         is.calm reach (reached_of flat setup cycles rank m.row m.word again reach is) run memory runs probes each
         (record { each = λ pairs once seen. none.each pairs once (λ u h. seen_in_row u (seen u h)) })
       where
@@ -188,5 +219,6 @@ run_counting_law flat setup cycles rank row word simulated reach is run memory r
           probe = s.probe;
           listed = s.listed;
           shows = s.shows;
-          unknown = ap (λ r. r u.bit) (same_row flat setup cycles rank row word simulated m.row m.word m.known u.cycle (seen_cycle flat setup cycles m.row reach probes each u s)) ∙ s.unknown;
+          unknown = ap (λ r. r u.bit) (same_row flat setup cycles rank row word simulated m.row m.word m.known u.cycle
+              (seen_cycle flat setup cycles m.row reach probes each u s)) ∙ s.unknown;
         }

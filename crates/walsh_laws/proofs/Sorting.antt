@@ -14,7 +14,8 @@ use Rattle.walsh_laws.proofs.Bits.{xor-swap}
 order_of : (p q : Probe) → ComesBefore p q ⊎ (ComesBefore q p ⊎ (p ≡ q))
 order_of p q = go (cases_lt p.cycle q.cycle) (cases_lt q.cycle p.cycle)
   where
-    go : (p.cycle < q.cycle) ⊎ (q.cycle ≤ p.cycle) → (q.cycle < p.cycle) ⊎ (p.cycle ≤ q.cycle) → ComesBefore p q ⊎ (ComesBefore q p ⊎ (p ≡ q))
+    go : (p.cycle < q.cycle) ⊎ (q.cycle ≤ p.cycle) → (q.cycle < p.cycle) ⊎ (p.cycle ≤ q.cycle)
+        → ComesBefore p q ⊎ (ComesBefore q p ⊎ (p ≡ q))
     go (inl h) other = inl (inl h)
     go (inr h) (inl k) = inr (inl (inl k))
     go (inr h) (inr k) = bits (cases_lt p.bit q.bit) (cases_lt q.bit p.bit)
@@ -64,7 +65,8 @@ insert_in p [] h n = (
 )
 insert_in p (q ∷ ps) h n = go (order_of p q) (insert_in p ps h.1 (λ i. n (Contains-later q p ps i)))
   where
-    go : ComesBefore p q ⊎ (ComesBefore q p ⊎ (p ≡ q)) → (rs : List Probe) × IsInserted p ps rs → (qs : List Probe) × IsInserted p (q ∷ ps) qs
+    go : ComesBefore p q ⊎ (ComesBefore q p ⊎ (p ≡ q)) → (rs : List Probe) × IsInserted p ps rs
+        → (qs : List Probe) × IsInserted p (q ∷ ps) qs
     go (inr (inr e)) rest = absurd (n (subst (λ x. Contains (q ∷ ps) x) (sym e) (Contains-here q ps)))
     go (inl first) rest = (
       p ∷ q ∷ ps,

@@ -43,7 +43,8 @@ pub record IsPair (flat : Flat) (cycles : ℕ) (pair : Probe) : Type 0 where
   pub cycle : pair.cycle < cycles
 
 -- a selection by which a set of labels is that of pairs
-pub record IsSetOfPairs (flat : Flat) (cycles : ℕ) (row : ℕ → Row) (root : ℕ → ℕ → Root) (pairs : List Probe) (labels : Labels) : Type 0 where
+pub record IsSetOfPairs (flat : Flat) (cycles : ℕ) (row : ℕ → Row) (root : ℕ → ℕ → Root) (pairs : List Probe)
+    (labels : Labels) : Type 0 where
   pub set_of : Root → Labels
   pub selection : IsSelection flat cycles row root set_of
   pub same : (l : ℕ) → labels l ≡ set_of_pairs root set_of pairs l
@@ -51,7 +52,8 @@ pub record IsSetOfPairs (flat : Flat) (cycles : ℕ) (row : ℕ → Row) (root :
 -- correlation in a run: where pairs correlate with labels, some selection has these labels as the pairs' set
 unfoldable pub RunCorrelationLaw : Type 0
 RunCorrelationLaw =
-    (flat : Flat) (setup : Setup) (cycles : ℕ) (rank : ℕ → ℕ) (row : ℕ → Row) (word : ℕ → ℕ → Row) → IsSimulated flat setup cycles rank row word
+    (flat : Flat) (setup : Setup) (cycles : ℕ) (rank : ℕ → ℕ) (row : ℕ → Row) (word : ℕ → ℕ → Row)
+    → IsSimulated flat setup cycles rank row word
     → (root : ℕ → ℕ → Root) (rooted : ℕ → ℕ → ℕ → Root) → IsRooted flat setup cycles row root rooted
     → (run : Choice → ℕ → Valuation) (memory : Choice → ℕ → Memory) → AreRuns flat setup cycles run memory
     → (pairs : List Probe) → ((u : Probe) → Contains pairs u → IsPair flat cycles u)
@@ -60,7 +62,8 @@ RunCorrelationLaw =
 
 -- pairs that probes show and that are unknown correlate with no secret bits: with no set of labels that is not empty and has all shares
 -- or none of each secret bit, and nothing else
-pub record IsRunUncorrelated (setup : Setup) (cycles : ℕ) (row : ℕ → Row) (reach : Reach) (run : Choice → ℕ → Valuation) (probes : List Probe) : Type 0 where
+pub record IsRunUncorrelated (setup : Setup) (cycles : ℕ) (row : ℕ → Row) (reach : Reach) (run : Choice → ℕ → Valuation)
+    (probes : List Probe) : Type 0 where
   pub each : (pairs : List Probe) → HasNoRepeat pairs → ((u : Probe) → Contains pairs u → IsSeen row reach probes u)
       → (labels : Labels) → IsWhole setup.table labels → (l : ℕ) → labels l ≡ true → correlation setup cycles pairs labels run ≡ pos 0
 
@@ -68,21 +71,26 @@ pub record IsRunUncorrelated (setup : Setup) (cycles : ℕ) (row : ℕ → Row) 
 -- secrets are
 unfoldable pub RunCountingLaw : Type 0
 RunCountingLaw =
-    (flat : Flat) (setup : Setup) (cycles : ℕ) (rank : ℕ → ℕ) (row : ℕ → Row) (word : ℕ → ℕ → Row) → IsSimulated flat setup cycles rank row word
+    (flat : Flat) (setup : Setup) (cycles : ℕ) (rank : ℕ → ℕ) (row : ℕ → Row) (word : ℕ → ℕ → Row)
+    → IsSimulated flat setup cycles rank row word
     → (reach : Reach) → IsReach flat setup cycles reach
     → (run : Choice → ℕ → Valuation) (memory : Choice → ℕ → Memory) → AreRuns flat setup cycles run memory
-    → (probes : List Probe) → ((p : Probe) → Contains probes p → IsProbe flat setup cycles p) → IsRunUncorrelated setup cycles row reach run probes
+    → (probes : List Probe) → ((p : Probe) → Contains probes p → IsProbe flat setup cycles p)
+    → IsRunUncorrelated setup cycles row reach run probes
     → (secrets others : List Bool) → length secrets ≡ secret_bit_count setup.table → length others ≡ secret_bit_count setup.table
-    → (seen : List Bool) → count_showing setup cycles reach run probes secrets seen ≡ count_showing setup cycles reach run probes others seen
+    → (seen : List Bool) → count_showing setup cycles reach run probes secrets seen
+    ≡ count_showing setup cycles reach run probes others seen
 
 -- where no finding of an order exists, the run is secure of this order
 unfoldable pub NoFindingLaw : Type 0
 NoFindingLaw =
-    (flat : Flat) (setup : Setup) (cycles : ℕ) (rank : ℕ → ℕ) (row : ℕ → Row) (word : ℕ → ℕ → Row) → IsSimulated flat setup cycles rank row word
+    (flat : Flat) (setup : Setup) (cycles : ℕ) (rank : ℕ → ℕ) (row : ℕ → Row) (word : ℕ → ℕ → Row)
+    → IsSimulated flat setup cycles rank row word
     → (d : ℕ) → (HasFinding flat setup cycles d → ⊥) → IsSecure flat setup cycles d
 
 -- a run that is secure is so under every order of gate events
 unfoldable pub InTimeLaw : Type 0
 InTimeLaw =
-    (flat : Flat) (setup : Setup) (cycles : ℕ) (rank : ℕ → ℕ) (row : ℕ → Row) (word : ℕ → ℕ → Row) → IsSimulated flat setup cycles rank row word
+    (flat : Flat) (setup : Setup) (cycles : ℕ) (rank : ℕ → ℕ) (row : ℕ → Row) (word : ℕ → ℕ → Row)
+    → IsSimulated flat setup cycles rank row word
     → (d : ℕ) → IsSecure flat setup cycles d → IsSecureInTime flat setup cycles d
