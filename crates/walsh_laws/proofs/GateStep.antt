@@ -45,7 +45,7 @@ signed_total-neg f (s ∷ ss) (Vary ∷ ps) =
       signed-neg s (signed_total (λ xs. f (true ∷ xs)) ss ps),
     ) (omega (arith, ints))
 
-subset_behind : (s : Bool) (ss : Subset) (p : Part) (ps : List Part) → IsSubsetOf (s ∷ ss) (p ∷ ps) → IsSubsetOf ss ps
+pub subset_behind : (s : Bool) (ss : Subset) (p : Part) (ps : List Part) → IsSubsetOf (s ∷ ss) (p ∷ ps) → IsSubsetOf ss ps
 subset_behind s ss p ps h = let n = h.as_long in record { as_long = omega arith; varies = λ place e. h.varies (suc place) e }
 
 not_chosen : (s : Bool) (ss : Subset) (p : Part) (ps : List Part) → IsSubsetOf (s ∷ ss) (p ∷ ps) → p ≢ Vary → s ≡ false

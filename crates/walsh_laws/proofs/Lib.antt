@@ -17,6 +17,8 @@ pub mod RunCorrelation
 pub mod RunCounting
 pub mod NoFinding
 pub mod InTime
+pub mod GateLives
+pub mod RootCones
 pub mod Sorting
 pub mod NodeNumbers
 pub mod Writing

@@ -3,3 +3,4 @@ pub mod NodeValues
 pub mod Laws
 pub mod Security
 pub mod Written
+pub mod Covered

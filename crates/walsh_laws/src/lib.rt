@@ -4,6 +4,7 @@
 
 ghost use Rattle.walsh_laws.specs.Laws.{CorrelationLaw, CountingLaw};
 ghost use Rattle.walsh_laws.specs.Security.{RunCorrelationLaw, RunCountingLaw, NoFindingLaw, InTimeLaw};
+ghost use Rattle.walsh_laws.specs.Covered.{SelectionConeLaw};
 ghost use Rattle.walsh_laws.specs.Written.{WritingLaw, ReadingLaw};
 
 pub use model_laws::{calm_law, waveform_law};
@@ -49,4 +50,9 @@ pub fn writing_law()
 /// A written finding is a finding.
 pub fn reading_law()
     ensures { ReadingLaw }
+{}
+
+/// The sets of a selection lie in the cones of the roots.
+pub fn selection_cone_law()
+    ensures { SelectionConeLaw }
 {}
