@@ -19,6 +19,8 @@ pub mod NoFinding
 pub mod InTime
 pub mod GateLives
 pub mod RootCones
+pub mod OneFinding
+pub mod Cover
 pub mod Sorting
 pub mod NodeNumbers
 pub mod Writing

@@ -28,42 +28,14 @@ use Rattle.model_laws.proofs.Reached.{one_reach_law}
 use Rattle.model_laws.proofs.Selected.{node_sets_law, root_sets_law}
 use Rattle.model_laws.specs.Laws.{OneRootedLaw, OneReachLaw, NodeSetsLaw, RootSetsLaw, HasSelection}
 use Rattle.walsh_laws.specs.Written.{IsPlaceOf, AreWrittenOver, WritingLaw, ReadingLaw}
+use Rattle.walsh_laws.specs.Covered.{HasFindingOver}
+use Rattle.walsh_laws.proofs.OneFinding.{one_finding}
 use Rattle.walsh_laws.proofs.Observed.{reached_inside}
 use Rattle.walsh_laws.proofs.Ready.{same_row, ready_of, AreReached, reached_of}
 use Rattle.walsh_laws.proofs.RunCorrelation.{map-cong, output_not_later}
 use Rattle.walsh_laws.proofs.RunCounting.{seen_cycle}
 use Rattle.walsh_laws.proofs.Sorting.{ascending_once, IsSorted, sorted}
 use Rattle.walsh_laws.proofs.NodeNumbers.{IsNumberFor, number_for, node_set_by}
-
--- roots over rows are roots over others that are the same in each cycle
-kept_by : (row other : ℕ → Row) (root : ℕ → ℕ → Root) (t : ℕ) (c : FlatCell) → row t ≡ other t → row (before t) ≡ other (before t)
-    → IsKept row root t c → IsKept other root t c
-kept_by row other root zero c now old kept = kept
-kept_by row other root (suc t) c now old kept = λ w h.
-    subst (λ r. IsSteady r (other (suc t)) (root t) (root (suc t)) w) old
-    (subst (λ r. IsSteady (row t) r (root t) (root (suc t)) w) now (kept w h))
-
-cell_root_by : (row other : ℕ → Row) (root : ℕ → ℕ → Root) (t : ℕ) (c : FlatCell) → row t ≡ other t → row (before t) ≡ other (before t)
-    → HasCellRoot row root t c → HasCellRoot other root t c
-cell_root_by row other root t c now old has = record {
-  known = λ n. has.known (λ e. n (ap (λ r. r c.output) (sym now) ∙ e));
-  kept = λ e k. has.kept (ap (λ r. r c.output) now ∙ e) (kept_by other row root t c (sym now) (sym old) k);
-  own = λ e n. has.own (ap (λ r. r c.output) now ∙ e) (λ k. n (kept_by row other root t c now old k));
-}
-
-rooted_by : (flat : Flat) (setup : Setup) (cycles : ℕ) (row other : ℕ → Row) (root : ℕ → ℕ → Root) (word : ℕ → ℕ → ℕ → Root)
-    → ((t : ℕ) → t < cycles → row t ≡ other t)
-    → IsRooted flat setup cycles row root word → IsRooted flat setup cycles other root word
-rooted_by flat setup cycles row other root word same is = record {
-  cells = λ t below c listed. cell_root_by row other root t c (same t below) (same (before t) (before_below t cycles below))
-      (is.cells t below c listed);
-  carried = record {
-    given = is.carried.given;
-    first = is.carried.first;
-    next = λ t below. subst (λ r. IsNext roots flat setup (ones r) (root t) (word t) (root (suc t)) (word (suc t))) (same t (omega arith))
-        (is.carried.next t below);
-  };
-}
 
 module _ (flat : Flat) (setup : Setup) (cycles : ℕ) (rank : ℕ → ℕ) (row : ℕ → Row) (word : ℕ → ℕ → Row) (root : ℕ → ℕ → Root)
     (rooted : ℕ → ℕ → ℕ → Root)
@@ -146,35 +118,10 @@ module _ (flat : Flat) (setup : Setup) (cycles : ℕ) (rank : ℕ → ℕ) (row 
       go p = let e = over.listed.stand.apart t b p.cycle p.bit inside p.inside p.number in
           ap (λ s. set_of (root s p.bit) l) (sym e.0) ∙ ap (λ c. set_of (root t c) l) (sym e.1)
 
-  pub written_from : (d : ℕ) → HasFinding flat setup cycles d → HasWrittenFinding flat setup cycles d index row reach nodes
-  unfolding NodeSetsLaw OneRootedLaw OneReachLaw set_at
+  pub written_from : (d : ℕ) → HasFindingOver flat setup cycles d row reach root → HasWrittenFinding flat setup cycles d index row reach nodes
+  unfolding NodeSetsLaw set_at
   written_from d h = go (sorted h.probes h.finding.different) (sorted h.pairs h.finding.once)
     where
-      rows : (t : ℕ) → t < cycles → row t ≡ h.row t
-      rows = same_row flat setup cycles rank row word over.simulated h.row h.word h.known
-
-      roots_same : (t : ℕ) → t < cycles → root t ≡ h.root t
-      roots_same t below = fun_ext (one_rooted_law flat setup cycles rank over.simulated.ranked over.simulated.bound_to.bound row root
-          h.root rooted h.rooted_word over.roots
-          (rooted_by flat setup cycles h.row row h.root h.rooted_word (λ s b. sym (rows s b)) h.rooted) t below)
-
-      is_reach : IsReach flat setup cycles h.reach
-      is_reach = record { row = h.row; word = h.word; calm = h.calm; known = h.known; still = h.still; reached = h.reached }
-
-      reach_same : (t b : ℕ) → t < cycles → b < flat.bits → reach t b ≡ h.reach t b
-      reach_same = one_reach_law flat setup cycles rank over.simulated.ranked over.simulated.bound_to.bound reach h.reach over.reached
-          is_reach
-
-      selection : IsSelection flat cycles row root h.set_of
-      selection = record {
-        empty = h.finding.selection.empty;
-        single = h.finding.selection.single;
-        outputs = λ t below c listed own.
-            subst (λ r. IsChosen h.set_of r (root t) c (h.set_of (output t c.output))) (sym (rows t below))
-            (subst (λ r. IsChosen h.set_of (h.row t) r c (h.set_of (output t c.output))) (sym (roots_same t below))
-            (h.finding.selection.outputs t below c listed (ap (λ r. r c.output) (sym (roots_same t below)) ∙ own)));
-      }
-
       sets : ℕ → Labels
       sets i = set_at h.set_of i (cases_lt i (length nodes))
 
@@ -183,8 +130,8 @@ module _ (flat : Flat) (setup : Setup) (cycles : ℕ) (rank : ℕ → ℕ) (row 
       sets_same t b l below inside = set_at-index h.set_of t b l below inside (cases_lt (index t b) (length nodes))
 
       node_sets : (t b : ℕ) → t < cycles → b < flat.bits → IsNodeSet sets (index t b) (get_or nodes (index t b) Nothing)
-      node_sets = node_sets_law flat cycles index row root (λ i. get_or nodes i Nothing) over.listed.stand over.simulated.range h.set_of
-          selection sets sets_same
+      node_sets = node_sets_law flat cycles index row root (λ i. get_or nodes i Nothing) over.listed.stand over.simulated.range
+          h.set_of h.finding.selection sets sets_same
 
       number_at : (i : ℕ) → i < length nodes → IsNumberFor sets i (get_or nodes i Nothing)
       number_at i below = number_for sets i (get_or nodes i Nothing) (over.listed.places i) (at (over.listed.covered i below))
@@ -200,8 +147,9 @@ module _ (flat : Flat) (setup : Setup) (cycles : ℕ) (rank : ℕ → ℕ) (row 
       numbers = map (λ i. number_by i (cases_lt i (length nodes))) (range_with_len 0 (length nodes))
 
       number_is : (i : ℕ) → i < length nodes → (below : i < length nodes) × (get_or numbers i 0 ≡ (number_at i below).number)
-      number_is i h1 = at (cases_lt i (length nodes))
-          (get_or-map-range_with_len (λ i. number_by i (cases_lt i (length nodes))) 0 (length nodes) i i 0 h1 (omega arith))
+      number_is i inside =
+          at (cases_lt i (length nodes))
+          (get_or-map-range_with_len (λ i. number_by i (cases_lt i (length nodes))) 0 (length nodes) i i 0 inside (omega arith))
         where
           at : (c : (i < length nodes) ⊎ (length nodes ≤ i)) → get_or numbers i 0 ≡ number_by i c
               → (below : i < length nodes) × (get_or numbers i 0 ≡ (number_at i below).number)
@@ -213,8 +161,8 @@ module _ (flat : Flat) (setup : Setup) (cycles : ℕ) (rank : ℕ → ℕ) (row 
         as_long = length-map-range_with_len (λ i. number_by i (cases_lt i (length nodes))) 0 (length nodes);
         allowed = λ i below. let n = number_is i below in
             subst (λ k. IsAllowedChoice k (get_or nodes i Nothing)) (sym n.1) (number_at i n.0).allowed;
-        follows = λ i below l. let n = number_is i below in (number_at i n.0).follows l
-            ∙ ap (λ k. node_set sets k (get_or nodes i Nothing) l) (sym n.1);
+        follows = λ i below l. let n = number_is i below in
+            (number_at i n.0).follows l ∙ ap (λ k. node_set sets k (get_or nodes i Nothing) l) (sym n.1);
       }
 
       go : IsSorted h.probes → IsSorted h.pairs → HasWrittenFinding flat setup cycles d index row reach nodes
@@ -227,10 +175,11 @@ module _ (flat : Flat) (setup : Setup) (cycles : ℕ) (rank : ℕ → ℕ) (row 
           is_try = record {
             some = let e = ps.as_long in let k = h.finding.some in omega arith;
             most = let e = ps.as_long in let k = h.finding.most in omega arith;
-            each = each;
+            each = λ p i. h.finding.each p (ps.from p i);
             ascending = ps.ascending;
             in_order = us.ascending;
-            seen = λ u i. seen u (us.from u i);
+            seen = λ u i. let s = h.finding.seen u (us.from u i) in
+                record { probe = s.probe; listed = ps.into s.probe s.listed; shows = s.shows; unknown = s.unknown };
             selection = node_selection;
           };
           leaks = record {
@@ -242,39 +191,19 @@ module _ (flat : Flat) (setup : Setup) (cycles : ℕ) (rank : ℕ → ℕ) (row 
         elsewhere = record { zero = λ i below n. let k = number_is i below in k.1 ∙ (number_at i k.0).elsewhere n };
       }
         where
-          each : (p : Probe) → Contains ps.probes p → IsProbe flat setup cycles p
-          each p i = h.finding.each p (ps.from p i)
-
-          seen : (u : Probe) → Contains h.pairs u → IsSeen row reach ps.probes u
-          seen u i = at (h.finding.seen u i)
-            where
-              at : IsSeen h.row h.reach h.probes u → IsSeen row reach ps.probes u
-              at s = record {
-                probe = s.probe;
-                listed = ps.into s.probe s.listed;
-                shows = record {
-                  reached = subst (λ ls. Contains ls u.bit)
-                      (sym (reach_same s.probe.cycle s.probe.bit (h.finding.each s.probe s.listed).cycle
-                      (h.finding.each s.probe s.listed).bit)) s.shows.reached;
-                  when = s.shows.when;
-                };
-                unknown = ap (λ r. r u.bit) (rows u.cycle (seen_cycle flat setup cycles h.row h.reach h.probes h.finding.each u s))
-                    ∙ s.unknown;
-              }
-
-          same : (l : ℕ) → set_of_nodes index sets us.probes l ≡ set_of_pairs h.root h.set_of h.pairs l
+          same : (l : ℕ) → set_of_nodes index sets us.probes l ≡ set_of_pairs root h.set_of h.pairs l
           same l = us.parities (λ (u : Probe). sets (index u.cycle u.bit) l)
-              ∙ ap parity (map-cong (λ (u : Probe). sets (index u.cycle u.bit) l) (λ (u : Probe). h.set_of (h.root u.cycle u.bit) l) h.pairs
-              (λ u i. let s = seen u i in let below = seen_cycle flat setup cycles row reach ps.probes each u s in
-              sets_same u.cycle u.bit l below (seen_bit row ps.probes each u s)
-              ∙ ap (λ r. h.set_of (r u.bit) l) (roots_same u.cycle below)))
+              ∙ ap parity (map-cong (λ (u : Probe). sets (index u.cycle u.bit) l) (λ (u : Probe). h.set_of (root u.cycle u.bit) l) h.pairs
+              (λ u i. sets_same u.cycle u.bit l (seen_cycle flat setup cycles row reach h.probes h.finding.each u (h.finding.seen u i))
+              (seen_bit row h.probes h.finding.each u (h.finding.seen u i))))
 
 pub writing_law : WritingLaw
 unfolding WritingLaw
-writing_law flat setup cycles rank row word root rooted reach index nodes over = written_from flat setup cycles rank row word root rooted
-    reach index nodes over
+writing_law flat setup cycles rank row word root rooted reach index nodes over d h =
+    written_from flat setup cycles rank row word root rooted reach index nodes over d
+    (one_finding flat setup cycles rank row word over.simulated root rooted over.roots reach over.reached d h)
 
 pub reading_law : ReadingLaw
 unfolding ReadingLaw
-reading_law flat setup cycles rank row word root rooted reach index nodes over = finding_from flat setup cycles rank row word root rooted
-    reach index nodes over
+reading_law flat setup cycles rank row word root rooted reach index nodes over =
+    finding_from flat setup cycles rank row word root rooted reach index nodes over

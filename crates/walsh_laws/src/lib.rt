@@ -4,7 +4,7 @@
 
 ghost use Rattle.walsh_laws.specs.Laws.{CorrelationLaw, CountingLaw};
 ghost use Rattle.walsh_laws.specs.Security.{RunCorrelationLaw, RunCountingLaw, NoFindingLaw, InTimeLaw};
-ghost use Rattle.walsh_laws.specs.Covered.{SelectionConeLaw};
+ghost use Rattle.walsh_laws.specs.Covered.{OneFindingLaw, SelectionConeLaw, CoverLaw};
 ghost use Rattle.walsh_laws.specs.Written.{WritingLaw, ReadingLaw};
 
 pub use model_laws::{calm_law, waveform_law};
@@ -55,4 +55,14 @@ pub fn reading_law()
 /// The sets of a selection lie in the cones of the roots.
 pub fn selection_cone_law()
     ensures { SelectionConeLaw }
+{}
+
+/// Where a finding exists, it is one over what was simulated, with its reach and its roots.
+pub fn one_finding_law()
+    ensures { OneFindingLaw }
+{}
+
+/// A run with a finding is covered, so one that is not covered has none.
+pub fn cover_law()
+    ensures { CoverLaw }
 {}

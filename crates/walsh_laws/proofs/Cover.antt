@@ -1,0 +1,78 @@
+-- A run with a finding is covered.
+use Rattle.std.proofs.Common.{◌≡◌, ◌≢◌, ℕ, zero, suc, ◌<◌, ◌≤◌, ◌⊎◌, inl, inr, Bool, true, false, List, [], ◌∷◌, map, refl, sym, ◌∙◌, ap, subst, arith}
+use Rattle.std.specs.Prelude.{Contains}
+use Rattle.std.proofs.lemmas.Bool.{false≢true, cases_Bool}
+use Rattle.coco_base.specs.declared.netlist.Flat.{Flat}
+use Rattle.coco_base.specs.declared.setup.Setup.{Setup}
+use Rattle.coco_base.specs.declared.finding.Probe.{Probe}
+use Rattle.coco_model.specs.Cells.{xor}
+use Rattle.coco_model.specs.Labels.{parity, secret_labels}
+use Rattle.coco_model.specs.Known.{Row}
+use Rattle.coco_model.specs.Reach.{Reach, IsReach}
+use Rattle.coco_model.specs.Roots.{Root, IsRooted}
+use Rattle.coco_model.specs.Secure.{IsProbe}
+use Rattle.coco_model.specs.Findings.{IsSeen, set_of_pairs}
+use Rattle.coco_model.specs.Cones.{IsInProbeCone, IsCovered}
+use Rattle.coco_model.proofs.Basics.{Contains-here, Contains-later}
+use Rattle.walsh_laws.specs.Security.{IsSimulated}
+use Rattle.walsh_laws.specs.Covered.{HasFindingOver, CoverLaw}
+use Rattle.walsh_laws.proofs.Observed.{reached_inside}
+use Rattle.walsh_laws.proofs.Ready.{ready_of, AreReached, reached_of}
+use Rattle.walsh_laws.proofs.RunCounting.{seen_cycle}
+use Rattle.walsh_laws.proofs.RootCones.{root_cone}
+use Rattle.walsh_laws.proofs.OneFinding.{one_finding}
+
+-- where an exclusive or is 1, one of its values is
+odd_member : {X : Type 0} (f : X → Bool) (xs : List X) → parity (map f xs) ≡ true → (x : X) × Contains xs x × (f x ≡ true)
+odd_member f [] e = absurd (false≢true e)
+odd_member f (x ∷ xs) e = go (cases_Bool (f x)) (odd_member f xs)
+  where
+    go : (f x ≡ true) ⊎ (f x ≡ false) → (parity (map f xs) ≡ true → (y : _) × Contains xs y × (f y ≡ true))
+        → (y : _) × Contains (x ∷ xs) y × (f y ≡ true)
+    go (inl h) rest = (x, Contains-here x xs, h)
+    go (inr h) rest = let r = rest (sym (ap (λ b. xor b (parity (map f xs))) h) ∙ e) in (r.0, Contains-later x r.0 xs r.1, r.2)
+
+covered_by : (flat : Flat) (setup : Setup) (cycles : ℕ) (rank : ℕ → ℕ) (row : ℕ → Row) (word : ℕ → ℕ → Row)
+    → IsSimulated flat setup cycles rank row word
+    → (root : ℕ → ℕ → Root) (rooted : ℕ → ℕ → ℕ → Root) → IsRooted flat setup cycles row root rooted
+    → (reach : Reach) → IsReach flat setup cycles reach
+    → (d : ℕ) → HasFindingOver flat setup cycles d row reach root → IsCovered flat setup cycles row reach root
+covered_by flat setup cycles rank row word simulated root rooted is_rooted reach is d h =
+    go (h.finding.whole.no_mask h.finding.member h.finding.not_empty)
+  where
+    are_reached : AreReached flat setup cycles row is.calm reach
+    are_reached = reached_of flat setup cycles rank row word simulated reach is
+
+    inside : (u : Probe) → IsSeen row reach h.probes u → u.bit < flat.bits
+    inside u s = reached_inside flat (is.calm s.probe.cycle) u.bit s.probe.bit simulated.range
+        (((are_reached.reached s.probe.cycle is_probe.cycle s.probe.bit is_probe.bit).1 u.bit).0 s.shows.reached) is_probe.bit
+      where
+        is_probe : IsProbe flat setup cycles s.probe
+        is_probe = h.finding.each s.probe s.listed
+
+    in_cone : (l : ℕ) → (u : Probe) × Contains h.pairs u × (h.set_of (root u.cycle u.bit) l ≡ true)
+        → (probe : Probe) × IsProbe flat setup cycles probe × IsInProbeCone flat row reach root probe l
+    in_cone l (u, listed, has) = let s = h.finding.seen u listed in
+        (s.probe, h.finding.each s.probe s.listed, record {
+          leaf = u.bit;
+          cycle = u.cycle;
+          shows = s.shows;
+          member = root_cone flat setup cycles rank row word root rooted
+              (ready_of flat setup cycles rank row word simulated root rooted is_rooted) h.set_of h.finding.selection u.cycle u.bit l
+              (seen_cycle flat setup cycles row reach h.probes h.finding.each u s) (inside u s) has;
+        })
+
+    go : (shares : List ℕ) × Contains (secret_labels setup.table.secrets) shares × Contains shares h.finding.member
+        → IsCovered flat setup cycles row reach root
+    go (shares, secret, member) = record {
+      shares = shares;
+      secret = secret;
+      each = λ l i. in_cone l (odd_member (λ (u : Probe). h.set_of (root u.cycle u.bit) l) h.pairs
+          (h.finding.whole.all_or_none shares secret l h.finding.member i member ∙ h.finding.not_empty));
+    }
+
+pub cover_law : CoverLaw
+unfolding CoverLaw
+cover_law flat setup cycles rank row word simulated root rooted is_rooted reach is d h =
+    covered_by flat setup cycles rank row word simulated root rooted is_rooted reach is d
+    (one_finding flat setup cycles rank row word simulated root rooted is_rooted reach is d h)
