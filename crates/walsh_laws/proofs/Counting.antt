@@ -1,7 +1,7 @@
 -- Nodes that do not correlate with secret bits have equal counts.
 use Rattle.std.proofs.Common.{◌≡◌, ◌≢◌, ℕ, ◌<◌, ◌⊎◌, inl, inr, Bool, true, false, ◌&&◌, List, [], ◌∷◌, map, length, get_or, refl, sym, ◌∙◌, ap, subst, arith, nat_eq, pos}
 use Rattle.std.specs.Prelude.{Contains}
-use Rattle.std.proofs.lemmas.Bool.{true≢false, false≢true, cases_Bool, cases_eq}
+use Rattle.std.proofs.lemmas.Bool.{true≢false, false≢true, cases_Bool, cases_eq, and_parts}
 use Rattle.std.proofs.lemmas.List.{length-map}
 use Rattle.coco_base.specs.declared.labels.LabelTable.{LabelTable}
 use Rattle.coco_base.specs.declared.unrolled.Node.{Node}
@@ -13,7 +13,7 @@ use Rattle.coco_model.proofs.Basics.{Contains-here, Contains-later}
 use Rattle.walsh_laws.specs.Sums.{parity_below}
 use Rattle.walsh_laws.specs.NodeValues.{IsNodeValue, AreNodeValues}
 use Rattle.walsh_laws.specs.Laws.{is_odd, IsShownSet, IsUncorrelated, count_with_values, CountingLaw}
-use Rattle.walsh_laws.proofs.Bits.{xor-assoc, xor-swap, and-xor_right, signed-xor, signed-zero}
+use Rattle.walsh_laws.proofs.Bits.{xor-assoc, xor-swap, and-xor_right, signed-xor, signed-zero, and-false}
 use Rattle.walsh_laws.proofs.Totals.{total, total-cong, total-signed, sign_total-choices}
 use Rattle.walsh_laws.proofs.Parity.{differs, parity-cong, parity-xor, parity_one, parity_none, picked, label_parity-below}
 use Rattle.walsh_laws.proofs.Choices.{count, count-cong, filtered_twice}
@@ -50,14 +50,10 @@ picked-listed (true ∷ ss) (o ∷ os) i e = go (cases_eq o i) (picked-listed ss
     go (inl k) rest = subst (Contains (o ∷ os)) k (Contains-here o os)
     go (inr n) rest = Contains-later o i os (rest (sym (ap (λ b. xor b (picked ss os i)) (differs o i n)) ∙ e))
 
-both_true : (a b : Bool) → (a && b) ≡ true → (a ≡ true) × (b ≡ true)
-both_true true b e = (refl, e)
-both_true false b e = absurd (false≢true e)
-
 picked_shown : (nodes : ℕ → Node) (subset : Subset) (shown : List ℕ) → IsShownSet shown nodes (picked_nodes nodes subset shown)
 picked_shown nodes subset shown = record {
-  shown_nodes = λ i e. picked-listed subset shown i (both_true (is_some_node (nodes i)) (picked subset shown i) e).1;
-  unknown = λ i e. some_is (nodes i) (both_true (is_some_node (nodes i)) (picked subset shown i) e).0;
+  shown_nodes = λ i e. picked-listed subset shown i (and_parts (is_some_node (nodes i)) (picked subset shown i) e).1;
+  unknown = λ i e. some_is (nodes i) (and_parts (is_some_node (nodes i)) (picked subset shown i) e).0;
 }
 
 -- one number where a test holds
@@ -66,16 +62,8 @@ parity_one_where n o k v below = go (k o) refl
   where
     there : (b : Bool) → k o ≡ b → (i : ℕ) → (o ≡ i) ⊎ (o ≢ i) → (k i && nat_eq o i) ≡ (b && nat_eq o i)
     there b e i (inl f) = rw (← f, e) refl
-    there true e i (inr n) = rw (differs o i n) (none (k i))
-      where
-        none : (a : Bool) → (a && false) ≡ false
-        none true = refl
-        none false = refl
-    there false e i (inr n) = rw (differs o i n) (none (k i))
-      where
-        none : (a : Bool) → (a && false) ≡ false
-        none true = refl
-        none false = refl
+    there true e i (inr n) = rw (differs o i n) (and-false (k i))
+    there false e i (inr n) = rw (differs o i n) (and-false (k i))
 
     go : (b : Bool) → k o ≡ b → parity_below n (λ i. k i && nat_eq o i) v ≡ (k o && v o)
     go true e = parity-cong n _ _ v v (λ i h. there true e i (cases_eq o i)) (λ i h. refl) ∙ parity_one n o v below ∙ rw e refl
@@ -88,12 +76,8 @@ pub record IsPickedValue (n labels : ℕ) (nodes : ℕ → Node) (value : Choice
   pub is : (c : Choice) → length c ≡ labels
       → chosen_parity subset (map (value c) shown) ≡ xor constant (parity_below n (picked_nodes nodes subset shown) (value c))
 
-and-none : (a : Bool) → (a && false) ≡ false
-and-none true = refl
-and-none false = refl
-
 nothing_picked : (n : ℕ) (nodes : ℕ → Node) (v : ℕ → Bool) → parity_below n (λ i. is_some_node (nodes i) && false) v ≡ false
-nothing_picked n nodes v = parity_none n _ v (λ i h. and-none (is_some_node (nodes i)))
+nothing_picked n nodes v = parity_none n _ v (λ i h. and-false (is_some_node (nodes i)))
 
 picked_value : (n labels : ℕ) (nodes : ℕ → Node) (value : Choice → ℕ → Bool) → AreNodeValues n nodes labels value
     → (subset : Subset) (shown : List ℕ)

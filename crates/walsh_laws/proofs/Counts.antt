@@ -1,10 +1,10 @@
 -- Equal counts, one observed bit at a time.
 use Rattle.std.proofs.Common.{◌≡◌, ℕ, suc, ◌+◌, ◌<◌, ◌⊎◌, inl, inr, Bool, true, false, cond, not, ◌&&◌, List, [], ◌∷◌, map, length, get_or, refl, sym, ◌∙◌, ap, arith, pos}
 use Rattle.std.proofs.lemmas.Int.{ints}
-use Rattle.std.proofs.lemmas.Bool.{false≢true}
+use Rattle.std.proofs.lemmas.Bool.{false≢true, and_parts}
 use Rattle.coco_model.specs.Cells.{xor, signed, chosen_parity, Subset}
 use Rattle.coco_model.specs.Labels.{Choice, same_bits}
-use Rattle.walsh_laws.proofs.Bits.{xor-assoc, xor-comm}
+use Rattle.walsh_laws.proofs.Bits.{xor-assoc, xor-comm, and-true}
 use Rattle.walsh_laws.proofs.Totals.{total}
 use Rattle.walsh_laws.proofs.Choices.{count, count-cong, count_split, count_none, total-count, IsPassing, passing_or_none}
 
@@ -151,25 +151,21 @@ balanced_half n p q b x one two = go x
           ∙ ap (λ y. p c && (has_bit b false c && y)) (of_not (q c))));
     }
 
-and-true : (s : Bool) → s ≡ (s && true)
-and-true true = refl
-and-true false = refl
-
-and-false : (s t : Bool) → ((s && false) && t) ≡ false
-and-false true t = refl
-and-false false t = refl
+none_passes : (s t : Bool) → ((s && false) && t) ≡ false
+none_passes true t = refl
+none_passes false t = refl
 
 none_pass : (n : ℕ) (p q : Choice → Bool) → IsBalanced n (λ c. p c && false) q
 none_pass n p q = record {
-  same = count_none n _ (λ c h. and-false (p c) (q c))
-      ∙ sym (count_none n _ (λ c h. and-false (p c) (not (q c))));
+  same = count_none n _ (λ c h. none_passes (p c) (q c))
+      ∙ sym (count_none n _ (λ c h. none_passes (p c) (not (q c))));
 }
 
 -- a balance with every subset of some bits is one where these bits are seen
 pub balanced_showing : (n : ℕ) (p q : Choice → Bool) (bits : List (Choice → Bool))
     → ((subset : Subset) → IsBalanced n p (λ c. xor (chosen_parity subset (values_of bits c)) (q c)))
     → (seen : List Bool) → IsBalanced n (λ c. p c && same_bits (values_of bits c) seen) q
-balanced_showing n p q [] each [] = balanced-cong n p (λ c. xor false (q c)) _ _ (λ c h. and-true (p c)) (λ c h. refl) (each [])
+balanced_showing n p q [] each [] = balanced-cong n p (λ c. xor false (q c)) _ _ (λ c h. sym (and-true (p c))) (λ c h. refl) (each [])
 balanced_showing n p q [] each (x ∷ seen) = none_pass n p q
 balanced_showing n p q (b ∷ bits) each [] = none_pass n p q
 balanced_showing n p q (b ∷ bits) each (x ∷ seen) =
@@ -229,10 +225,6 @@ equal_counts n p (t ∷ tests) each (x ∷ one) (y ∷ other) e f =
     change false true = count-cong n _ _ (λ c h. turn_false (p c) (t c) (same_bits (values_of tests c) one)) ∙ sym showing.same
         ∙ count-cong n _ _ (λ c h. sym (turn_true (p c) (t c) (same_bits (values_of tests c) one)))
 
-parts_true : (a b : Bool) → (a && b) ≡ true → (a ≡ true) × (b ≡ true)
-parts_true true b e = (refl, e)
-parts_true false b e = absurd (false≢true e)
-
 bit_is : (b x : Bool) → not (xor b x) ≡ true → b ≡ x
 bit_is true true e = refl
 bit_is true false e = absurd (false≢true e)
@@ -291,8 +283,8 @@ determined_within n p q r h (b ∷ bits) each determined =
     fixed : (x : Bool) (c d : Choice) → length c ≡ n → length d ≡ n → (r c && not (xor (b c) x)) ≡ true → (r d && not (xor (b d) x)) ≡ true
         → values_of bits c ≡ values_of bits d → h c ≡ h d
     fixed x c d i j e f g =
-        let u = parts_true (r c) (not (xor (b c) x)) e in
-        let w = parts_true (r d) (not (xor (b d) x)) f in
+        let u = and_parts (r c) (not (xor (b c) x)) e in
+        let w = and_parts (r d) (not (xor (b d) x)) f in
         determined c d i j u.0 w.0 (ap (λ y. y ∷ values_of bits c) (bit_is (b c) x u.1 ∙ sym (bit_is (b d) x w.1)) ∙ ap (λ ys. b d ∷ ys) g)
 
     half : (x : Bool) → count n (λ c. (p c && (r c && not (xor (b c) x))) && h c)
@@ -321,9 +313,9 @@ pub equal_determined : (n : ℕ) (p q h : Choice → Bool) (bits : List (Choice 
     → ((c d : Choice) → length c ≡ n → length d ≡ n → values_of bits c ≡ values_of bits d → h c ≡ h d)
     → count n (λ c. p c && h c) ≡ count n (λ c. q c && h c)
 equal_determined n p q h bits each determined =
-    count-cong n _ _ (λ c i. ap (λ y. y && h c) (and-true (p c)))
+    count-cong n _ _ (λ c i. ap (λ y. y && h c) (sym (and-true (p c))))
     ∙ determined_within n p q (λ c. true) h bits
-    (λ seen e. count-cong n _ _ (λ c i. ap (λ y. y && same_bits (values_of bits c) seen) (sym (and-true (p c)))) ∙ each seen e
-    ∙ count-cong n _ _ (λ c i. ap (λ y. y && same_bits (values_of bits c) seen) (and-true (q c))))
+    (λ seen e. count-cong n _ _ (λ c i. ap (λ y. y && same_bits (values_of bits c) seen) (and-true (p c))) ∙ each seen e
+    ∙ count-cong n _ _ (λ c i. ap (λ y. y && same_bits (values_of bits c) seen) (sym (and-true (q c)))))
     (λ c d i j k m e. determined c d i j e)
-    ∙ count-cong n _ _ (λ c i. ap (λ y. y && h c) (sym (and-true (q c))))
+    ∙ count-cong n _ _ (λ c i. ap (λ y. y && h c) (and-true (q c)))

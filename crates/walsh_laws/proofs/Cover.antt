@@ -1,5 +1,5 @@
 -- A run with a finding is covered.
-use Rattle.std.proofs.Common.{◌≡◌, ◌≢◌, ℕ, zero, suc, ◌<◌, ◌≤◌, ◌⊎◌, inl, inr, Bool, true, false, List, [], ◌∷◌, map, refl, sym, ◌∙◌, ap, subst, arith}
+use Rattle.std.proofs.Common.{◌≡◌, ℕ, ◌⊎◌, inl, inr, Bool, true, false, List, [], ◌∷◌, map, sym, ◌∙◌, ap}
 use Rattle.std.specs.Prelude.{Contains}
 use Rattle.std.proofs.lemmas.Bool.{false≢true, cases_Bool}
 use Rattle.coco_base.specs.declared.netlist.Flat.{Flat}
@@ -11,14 +11,12 @@ use Rattle.coco_model.specs.Known.{Row}
 use Rattle.coco_model.specs.Reach.{Reach, IsReach}
 use Rattle.coco_model.specs.Roots.{Root, IsRooted}
 use Rattle.coco_model.specs.Secure.{IsProbe}
-use Rattle.coco_model.specs.Findings.{IsSeen, set_of_pairs}
 use Rattle.coco_model.specs.Cones.{IsInProbeCone, IsCovered}
 use Rattle.coco_model.proofs.Basics.{Contains-here, Contains-later}
 use Rattle.walsh_laws.specs.Security.{IsSimulated}
 use Rattle.walsh_laws.specs.Covered.{HasFindingOver, CoverLaw}
-use Rattle.walsh_laws.proofs.Observed.{reached_inside}
 use Rattle.walsh_laws.proofs.Ready.{ready_of, AreReached, reached_of}
-use Rattle.walsh_laws.proofs.RunCounting.{seen_cycle}
+use Rattle.walsh_laws.proofs.RunCounting.{seen_cycle, seen_inside}
 use Rattle.walsh_laws.proofs.RootCones.{root_cone}
 use Rattle.walsh_laws.proofs.OneFinding.{one_finding}
 
@@ -43,24 +41,21 @@ covered_by flat setup cycles rank row word simulated root rooted is_rooted reach
     are_reached : AreReached flat setup cycles row is.calm reach
     are_reached = reached_of flat setup cycles rank row word simulated reach is
 
-    inside : (u : Probe) → IsSeen row reach h.probes u → u.bit < flat.bits
-    inside u s = reached_inside flat (is.calm s.probe.cycle) u.bit s.probe.bit simulated.range
-        (((are_reached.reached s.probe.cycle is_probe.cycle s.probe.bit is_probe.bit).1 u.bit).0 s.shows.reached) is_probe.bit
-      where
-        is_probe : IsProbe flat setup cycles s.probe
-        is_probe = h.finding.each s.probe s.listed
-
     in_cone : (l : ℕ) → (u : Probe) × Contains h.pairs u × (h.set_of (root u.cycle u.bit) l ≡ true)
         → (probe : Probe) × IsProbe flat setup cycles probe × IsInProbeCone flat row reach root probe l
-    in_cone l (u, listed, has) = let s = h.finding.seen u listed in
-        (s.probe, h.finding.each s.probe s.listed, record {
-          leaf = u.bit;
-          cycle = u.cycle;
-          shows = s.shows;
-          member = root_cone flat setup cycles rank row word root rooted
-              (ready_of flat setup cycles rank row word simulated root rooted is_rooted) h.set_of h.finding.selection u.cycle u.bit l
-              (seen_cycle flat setup cycles row reach h.probes h.finding.each u s) (inside u s) has;
-        })
+    in_cone l (u, listed, has) = let s = h.finding.seen u listed in (
+      s.probe,
+      h.finding.each s.probe s.listed,
+      record {
+        leaf = u.bit;
+        cycle = u.cycle;
+        shows = s.shows;
+        member = root_cone flat setup cycles rank row word root rooted
+            (ready_of flat setup cycles rank row word simulated root rooted is_rooted) h.set_of h.finding.selection u.cycle u.bit l
+            (seen_cycle flat setup cycles row reach h.probes h.finding.each u s)
+            (seen_inside flat setup cycles simulated.range row is.calm reach are_reached row h.probes h.finding.each u s) has;
+      },
+    )
 
     go : (shares : List ℕ) × Contains (secret_labels setup.table.secrets) shares × Contains shares h.finding.member
         → IsCovered flat setup cycles row reach root

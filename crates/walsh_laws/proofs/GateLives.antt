@@ -1,5 +1,5 @@
 -- The inputs of a subset whose signed sum is not 0 are live.
-use Rattle.std.proofs.Common.{◌≡◌, ◌≢◌, ℕ, zero, suc, ◌⊎◌, inl, inr, Bool, true, false, List, [], ◌∷◌, get_or, refl, sym, ◌∙◌, ap, subst, arith, ℤ, pos, ◌+ℤ◌}
+use Rattle.std.proofs.Common.{◌≡◌, ◌≢◌, ℕ, zero, suc, ◌⊎◌, inl, inr, Bool, true, false, List, [], ◌∷◌, get_or, refl, sym, ◌∙◌, ap, arith, ℤ, pos, ◌+ℤ◌}
 use Rattle.std.proofs.Math.IntN.{ℤ_discrete}
 use Rattle.std.proofs.lemmas.Int.{ints}
 use Rattle.std.proofs.lemmas.Bool.{false≢true}
@@ -46,7 +46,8 @@ differ_or_same f g (s ∷ ss) (One ∷ ps) = go (differ_or_same (λ xs. f (true 
     go (inl d) = inl (differ_behind f g One ps true refl d)
     go (inr e) = inr e
 differ_or_same f g (s ∷ ss) (Vary ∷ ps) =
-    go (differ_or_same (λ xs. f (false ∷ xs)) (λ xs. g (false ∷ xs)) ss ps) (differ_or_same (λ xs. f (true ∷ xs)) (λ xs. g (true ∷ xs)) ss ps)
+    go (differ_or_same (λ xs. f (false ∷ xs)) (λ xs. g (false ∷ xs)) ss ps)
+    (differ_or_same (λ xs. f (true ∷ xs)) (λ xs. g (true ∷ xs)) ss ps)
   where
     go : IsDifferent (λ xs. f (false ∷ xs)) (λ xs. g (false ∷ xs)) ps
         ⊎ (sum_at (λ xs. f (false ∷ xs)) ss ps ≡ sum_at (λ xs. g (false ∷ xs)) ss ps)
@@ -60,7 +61,13 @@ differ_or_same f g (s ∷ ss) (Vary ∷ ps) =
 
 live_behind : (f : List Bool → Bool) (p : Part) (ps : List Part) (b : Bool) (place : ℕ) → Allows p b → IsLiveOf (λ xs. f (b ∷ xs)) ps place
     → IsLiveOf f (p ∷ ps) (suc place)
-live_behind f p ps b place allows l = record { varies = l.varies; inputs = b ∷ l.inputs; allowed = (allows, l.allowed); changes = l.changes }
+live_behind f p ps b place allows l = record {
+  varies = l.varies;
+  inputs = b ∷ l.inputs;
+  allowed = (allows, l.allowed);
+  changes =
+      l.changes;
+}
 
 -- the sum at a subset with the first place is a difference
 first_live : (f : List Bool → Bool) (ss : Subset) (ps : List Part)
@@ -107,7 +114,8 @@ lives f (s ∷ ss) (Vary ∷ ps) within n (suc place) e =
 
 pub gate_lives : (kind : Kind) (ps : List Part) (ss : Subset) → IsSubsetOf ss ps → signed_sum kind ps ss ≢ pos 0
     → (place : ℕ) → get_or ss place false ≡ true → IsLiveInput kind ps place
-gate_lives kind ps ss within n place e = go (lives (output_of kind) ss ps within (λ z. n (sym (signed_total-signs (output_of kind) ss ps within) ∙ z)) place e)
+gate_lives kind ps ss within n place e = go
+    (lives (output_of kind) ss ps within (λ z. n (sym (signed_total-signs (output_of kind) ss ps within) ∙ z)) place e)
   where
     go : IsLiveOf (output_of kind) ps place → IsLiveInput kind ps place
     go l = record { varies = l.varies; inputs = l.inputs; allowed = l.allowed; changes = l.changes }

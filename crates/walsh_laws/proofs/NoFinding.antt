@@ -17,10 +17,9 @@ use Rattle.model_laws.specs.Laws.{HasMeaning, SecureLaw}
 use Rattle.walsh_laws.specs.Security.{IsSimulated, IsPair, correlation, IsSetOfPairs, NoFindingLaw}
 use Rattle.walsh_laws.proofs.WholeSets.{whole_outside}
 use Rattle.walsh_laws.proofs.Listing.{IsOnce, once_of}
-use Rattle.walsh_laws.proofs.Observed.{reached_inside}
 use Rattle.walsh_laws.proofs.Ready.{AreReached, reached_of, ready_of, meaning_of, simulated_by}
 use Rattle.walsh_laws.proofs.RunCorrelation.{run_correlation}
-use Rattle.walsh_laws.proofs.RunCounting.{run_counting, seen_cycle}
+use Rattle.walsh_laws.proofs.RunCounting.{run_counting, seen_cycle, seen_inside}
 
 member_of_odd : {X : Type 0} (f : X → Bool) (xs : List X) → parity (map f xs) ≡ true → (x : X) × Contains xs x
 member_of_odd f [] e = absurd (false≢true e)
@@ -34,13 +33,9 @@ module _ (flat : Flat) (setup : Setup) (cycles : ℕ) (rank : ℕ → ℕ) (m : 
   seen_pair : (probes : List Probe) → ((p : Probe) → Contains probes p → IsProbe flat setup cycles p) → (u : Probe)
       → IsSeen m.row m.reach probes u → IsPair flat cycles u
   seen_pair probes each u s = record {
-    bit = reached_inside flat (m.reaches.calm s.probe.cycle) u.bit s.probe.bit simulated.range
-        (((reached.reached s.probe.cycle is_probe.cycle s.probe.bit is_probe.bit).1 u.bit).0 s.shows.reached) is_probe.bit;
+    bit = seen_inside flat setup cycles simulated.range m.row m.reaches.calm m.reach reached m.row probes each u s;
     cycle = seen_cycle flat setup cycles m.row m.reach probes each u s;
   }
-    where
-      is_probe : IsProbe flat setup cycles s.probe
-      is_probe = each s.probe s.listed
 
   -- pairs that probes show, with a selection by which their set is whole and not empty, are a finding
   finding_of : (d : ℕ) (probes : List Probe) → length probes ≤ d → ((p : Probe) → Contains probes p → IsProbe flat setup cycles p)

@@ -1,13 +1,11 @@
 -- A finding over one meaning of a run is one over what was simulated.
-use Rattle.std.proofs.Common.{◌≡◌, ◌≢◌, ℕ, zero, suc, ◌<◌, ◌≤◌, Bool, true, false, List, [], ◌∷◌, map, refl, sym, ◌∙◌, ap, subst, arith}
+use Rattle.std.proofs.Common.{◌≡◌, ℕ, zero, suc, ◌<◌, sym, ◌∙◌, ap, subst, arith}
 use Rattle.std.specs.Prelude.{Contains}
 use Rattle.std.proofs.Math.Path.{fun_ext}
 use Rattle.coco_base.specs.declared.netlist.Flat.{Flat}
 use Rattle.coco_base.specs.declared.netlist.FlatCell.{FlatCell}
-use Rattle.coco_base.specs.declared.cell.Part.TheVariants.{Vary}
 use Rattle.coco_base.specs.declared.setup.Setup.{Setup}
 use Rattle.coco_base.specs.declared.finding.Probe.{Probe}
-use Rattle.coco_model.specs.Netlist.{wires_of}
 use Rattle.coco_model.specs.Labels.{parity}
 use Rattle.coco_model.specs.Carried.{IsNext}
 use Rattle.coco_model.specs.Run.{before}
@@ -15,7 +13,6 @@ use Rattle.coco_model.specs.Known.{Row, ones}
 use Rattle.coco_model.specs.Reach.{Reach, IsReach}
 use Rattle.coco_model.specs.Roots.{Root, roots, IsSteady, IsKept, HasCellRoot, IsRooted}
 use Rattle.coco_model.specs.Roots.Root.{output}
-use Rattle.coco_model.specs.Secure.{IsProbe}
 use Rattle.coco_model.specs.Findings.{IsChosen, IsSelection, IsSeen, IsWhole, set_of_pairs, HasFinding}
 use Rattle.coco_model.proofs.Keepers.{before_below}
 use Rattle.model_laws.proofs.Unique.{one_rooted_law}
@@ -86,7 +83,8 @@ one_finding flat setup cycles rank row word simulated root rooted is_rooted reac
 
     roots_same : (t : ℕ) → t < cycles → root t ≡ h.root t
     roots_same t below = fun_ext (one_rooted_law flat setup cycles rank simulated.ranked simulated.bound_to.bound row root h.root
-        rooted h.rooted_word is_rooted (rooted_by flat setup cycles h.row row h.root h.rooted_word (λ s b. sym (rows s b)) h.rooted) t below)
+        rooted h.rooted_word is_rooted (rooted_by flat setup cycles h.row row h.root h.rooted_word (λ s b. sym (rows s b)) h.rooted) t
+        below)
 
     is_reach : IsReach flat setup cycles h.reach
     is_reach = record { row = h.row; word = h.word; calm = h.calm; known = h.known; still = h.still; reached = h.reached }
@@ -110,7 +108,8 @@ one_finding flat setup cycles rank row word simulated root rooted is_rooted reac
       listed = s.listed;
       shows = record {
         reached = subst (λ ls. Contains ls u.bit)
-            (sym (reach_same s.probe.cycle s.probe.bit (h.finding.each s.probe s.listed).cycle (h.finding.each s.probe s.listed).bit)) s.shows.reached;
+            (sym (reach_same s.probe.cycle s.probe.bit (h.finding.each s.probe s.listed).cycle (h.finding.each s.probe s.listed).bit))
+            s.shows.reached;
         when = s.shows.when;
       };
       unknown = ap (λ r. r u.bit) (rows u.cycle (seen_cycle flat setup cycles h.row h.reach h.probes h.finding.each u s)) ∙ s.unknown;

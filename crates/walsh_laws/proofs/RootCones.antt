@@ -1,5 +1,5 @@
 -- The sets of a selection lie in the cones of the roots.
-use Rattle.std.proofs.Common.{◌≡◌, ◌≢◌, ℕ, zero, suc, ◌<◌, ◌≤◌, ◌⊎◌, inl, inr, Bool, true, false, ◌&&◌, List, [], ◌∷◌, get_or, refl, sym, ◌∙◌, ap, subst, arith}
+use Rattle.std.proofs.Common.{◌≡◌, ℕ, zero, suc, ◌<◌, ◌⊎◌, inl, inr, true, false, ◌&&◌, List, [], ◌∷◌, get_or, refl, sym, ◌∙◌, ap, subst, arith}
 use Rattle.std.specs.Prelude.{Contains}
 use Rattle.std.proofs.lemmas.Bool.{false≢true, cases_Bool, eqb-true}
 use Rattle.coco_base.specs.declared.netlist.Flat.{Flat}
@@ -17,12 +17,12 @@ use Rattle.coco_model.specs.Findings.{Labels, chosen_set, IsChosen, IsSelection}
 use Rattle.coco_model.specs.Cones.{IsInRootCone}
 use Rattle.coco_model.specs.Cones.IsInRootCone.{here, through}
 use Rattle.coco_model.proofs.Basics.{Contains-here, Contains-later, some_from_any, IsSome}
-use Rattle.model_laws.proofs.Rooted.{root_law}
-use Rattle.model_laws.specs.Laws.{RootLaw, IsRootInRange}
+use Rattle.model_laws.specs.Laws.{IsRootInRange}
 use Rattle.walsh_laws.specs.Covered.{SelectionConeLaw}
 use Rattle.walsh_laws.proofs.Numbering.{number-earlier, number-lower}
 use Rattle.walsh_laws.proofs.Homes.{root_home}
-use Rattle.walsh_laws.proofs.RunNodes.{IsReady, index_of}
+use Rattle.walsh_laws.proofs.RunNodes.{IsReady, index_of, in_range, output_below}
+use Rattle.walsh_laws.proofs.Bits.{and-false}
 use Rattle.walsh_laws.proofs.Ready.{ready_of}
 use Rattle.walsh_laws.proofs.GateLives.{gate_lives}
 
@@ -51,32 +51,21 @@ chosen_place set_of (s ∷ ss) (x ∷ xs) l e = go (cases_Bool s) (cases_Bool (s
       has = r.has;
     }
 
-    and-none : (b : Bool) → (b && false) ≡ false
-    and-none true = refl
-    and-none false = refl
-
     go : (s ≡ true) ⊎ (s ≡ false) → (set_of x l ≡ true) ⊎ (set_of x l ≡ false)
         → (chosen_set set_of ss xs l ≡ true → IsChosenPlace set_of ss xs l) → IsChosenPlace set_of (s ∷ ss) (x ∷ xs) l
     go (inl k) (inl h) rest = record { place = 0; chosen = k; item = x; at = λ d. refl; listed = Contains-here x xs; has = h }
     go (inr k) other rest = later (rest (sym (ap (λ b. xor (b && set_of x l) (chosen_set set_of ss xs l)) k) ∙ e))
-    go (inl k) (inr h) rest = later (rest (sym (ap (λ b. xor (s && b) (chosen_set set_of ss xs l)) h ∙ ap (λ b. xor b (chosen_set set_of ss xs l)) (and-none s)) ∙ e))
+    go (inl k) (inr h) rest = later (rest (sym (ap (λ b. xor (s && b) (chosen_set set_of ss xs l)) h
+        ∙ ap (λ b. xor b (chosen_set set_of ss xs l)) (and-false s)) ∙ e))
 
 module _ (flat : Flat) (setup : Setup) (cycles : ℕ) (rank : ℕ → ℕ) (row : ℕ → Row) (word : ℕ → ℕ → Row) (root : ℕ → ℕ → Root)
     (rooted : ℕ → ℕ → ℕ → Root) (ready : IsReady flat setup cycles rank row word root rooted)
     (set_of : Root → Labels) (selection : IsSelection flat cycles row root set_of) where
-
-  in_range : (t b : ℕ) → t < cycles → IsRootInRange flat (label_count setup.table cycles) t b (root t b)
-  unfolding RootLaw
-  in_range t b below = (root_law flat setup cycles rank row word ready.checked ready.starts root rooted ready.is_rooted t b below).3
-
-  cell_at : (t b s c : ℕ) → t < cycles → root t b ≡ output s c → IsSome (λ (x : FlatCell). x.output ≡ c) flat.cells
-  cell_at t b s c below e = some_from_any (λ (x : FlatCell). x.output ≡ c) flat.cells ((in_range t b below).cells s c e)
+  range_at : (t b : ℕ) → t < cycles → IsRootInRange flat (label_count setup.table cycles) t b (root t b)
+  range_at = in_range flat setup cycles rank row word root rooted ready
 
   output_inside : (t b s c : ℕ) → t < cycles → root t b ≡ output s c → c < flat.bits
-  output_inside t b s c below e = go (cell_at t b s c below e)
-    where
-      go : IsSome (λ (x : FlatCell). x.output ≡ c) flat.cells → c < flat.bits
-      go x = subst (λ y. y < flat.bits) x.holds (ready.range.outputs x.member x.listed)
+  output_inside = output_below flat setup cycles rank row word root rooted ready
 
   -- the cone of a root, by those of the outputs that are roots and have lower numbers than a bound
   by_lower : (bound t b l : ℕ) → t < cycles
@@ -87,7 +76,7 @@ module _ (flat : Flat) (setup : Setup) (cycles : ℕ) (rank : ℕ → ℕ) (row 
   by_lower bound t b l below lower cones nothing e has = absurd (false≢true (sym (selection.empty l) ∙ has))
   by_lower bound t b l below lower cones (label k) e has = here (label k) (ap label (eqb-true k l (sym (selection.single k l) ∙ has)))
   by_lower bound t b l below lower cones (output s c) e has =
-      cones s c (lower s c e) (earlier ((in_range t b below).earlier s c e)) (output_inside t b s c below e)
+      cones s c (lower s c e) (earlier ((range_at t b below).earlier s c e)) (output_inside t b s c below e)
       (root_home flat setup cycles rank row word ready.checked root rooted ready.is_rooted t below b s c e) has
     where
       earlier : (s < t) ⊎ ((s ≡ t) × (c ≡ b)) → s < cycles
@@ -97,7 +86,9 @@ module _ (flat : Flat) (setup : Setup) (cycles : ℕ) (rank : ℕ → ℕ) (row 
   output_cone : (bound t c l : ℕ) → index_of flat rank t c < bound → t < cycles → c < flat.bits → root t c ≡ output t c
       → set_of (output t c) l ≡ true → IsInRootCone flat row root l (output t c)
   output_cone zero t c l lt below inside own has = absurd (omega arith)
-  output_cone (suc bound) t c l lt below inside own has = at_cell (cell_at t c t c below own) (λ s d le. output_cone bound s d l (omega arith))
+  output_cone (suc bound) t c l lt below inside own has = at_cell
+      (some_from_any (λ (x : FlatCell). x.output ≡ c) flat.cells ((range_at t c below).cells t c own))
+      (λ s d le. output_cone bound s d l (omega arith))
     where
       at_cell : IsSome (λ (x : FlatCell). x.output ≡ c) flat.cells
           → ((s d : ℕ) → index_of flat rank s d < index_of flat rank t c → s < cycles → d < flat.bits → root s d ≡ output s d
@@ -105,11 +96,13 @@ module _ (flat : Flat) (setup : Setup) (cycles : ℕ) (rank : ℕ → ℕ) (row 
           → IsInRootCone flat row root l (output t c)
       at_cell x cones = at_chosen (selection.outputs t below x.member x.listed (subst (λ y. root t y ≡ output t y) (sym x.holds) own))
         where
-          at_chosen : IsChosen set_of (row t) (root t) x.member (set_of (output t x.member.output)) → IsInRootCone flat row root l (output t c)
+          at_chosen : IsChosen set_of (row t) (root t) x.member (set_of (output t x.member.output))
+              → IsInRootCone flat row root l (output t c)
           at_chosen h = at_place (chosen_place (λ w. set_of (wire_root (root t) w)) h.subset (wires_of x.member) l
               (sym (h.set l) ∙ ap (λ y. set_of (output t y) l) x.holds ∙ has))
             where
-              at_place : IsChosenPlace (λ w. set_of (wire_root (root t) w)) h.subset (wires_of x.member) l → IsInRootCone flat row root l (output t c)
+              at_place : IsChosenPlace (λ w. set_of (wire_root (root t) w)) h.subset (wires_of x.member) l
+                  → IsInRootCone flat row root l (output t c)
               at_place p = wire p.item (p.at (Const false)) p.listed p.has
                 where
                   lower : (n : ℕ) → Contains (wires_of x.member) (Bit n) → (s d : ℕ) → root t n ≡ output s d
@@ -127,18 +120,21 @@ module _ (flat : Flat) (setup : Setup) (cycles : ℕ) (rank : ℕ → ℕ) (row 
                   wire (Const b) at reads is = absurd (false≢true (sym (selection.empty l) ∙ is))
                   wire (Bit n) at reads is = through (output t c) t x.member p.place n x.listed (ap (output t) (sym x.holds))
                       (gate_lives x.member.kind (cell_parts (row t) x.member) h.subset h.unknown h.signed p.place p.chosen) at
-                      (by_lower (index_of flat rank t c) t n l below (λ s d e. lower n reads s d e ((in_range t n below).earlier s d e)) cones (root t n) refl is)
+                      (by_lower (index_of flat rank t c) t n l below (λ s d e. lower n reads s d e ((range_at t n below).earlier s d e))
+                      cones (root t n) refl is)
 
   pub root_cone : (t b l : ℕ) → t < cycles → b < flat.bits → set_of (root t b) l ≡ true → IsInRootCone flat row root l (root t b)
   root_cone t b l below inside has =
-      by_lower (suc (index_of flat rank t b)) t b l below (λ s c e. lower s c e ((in_range t b below).earlier s c e))
+      by_lower (suc (index_of flat rank t b)) t b l below (λ s c e. lower s c e ((range_at t b below).earlier s c e))
       (λ s c lt. output_cone (suc (index_of flat rank t b)) s c l lt) (root t b) refl has
     where
       lower : (s c : ℕ) → root t b ≡ output s c → (s < t) ⊎ ((s ≡ t) × (c ≡ b)) → index_of flat rank s c < suc (index_of flat rank t b)
       lower s c e (inl earlier) = let k = number-earlier flat.bits rank s t b c earlier (output_inside t b s c below e) in omega arith
-      lower s c e (inr same) = let k : index_of flat rank s c ≡ index_of flat rank t b = ap (λ u. index_of flat rank u c) same.0 ∙ ap (index_of flat rank t) same.1 in omega arith
+      lower s c e (inr same) = let k : index_of flat rank s c ≡ index_of flat rank t b = ap (λ u. index_of flat rank u c) same.0
+          ∙ ap (index_of flat rank t) same.1 in omega arith
 
 pub selection_cone_law : SelectionConeLaw
 unfolding SelectionConeLaw
 selection_cone_law flat setup cycles rank row word simulated root rooted is_rooted set_of selection =
-    root_cone flat setup cycles rank row word root rooted (ready_of flat setup cycles rank row word simulated root rooted is_rooted) set_of selection
+    root_cone flat setup cycles rank row word root rooted (ready_of flat setup cycles rank row word simulated root rooted is_rooted) set_of
+    selection

@@ -8,19 +8,17 @@ use Rattle.coco_base.specs.declared.finding.Probe.{Probe}
 use Rattle.coco_base.specs.declared.setup.Setup.{Setup}
 use Rattle.coco_base.specs.declared.unrolled.Node.TheVariants.{Nothing}
 use Rattle.coco_model.specs.Cells.{xor}
-use Rattle.coco_model.specs.Netlist.{Valuation}
+use Rattle.coco_model.specs.Netlist.{Valuation, IsInRange}
 use Rattle.coco_model.specs.Labels.{Choice, choices, choices_with, label_bit, label_count, secret_bit_count, same_bits}
 use Rattle.coco_model.specs.Run.{Memory, AreRuns, before}
 use Rattle.coco_model.specs.Known.{Row}
 use Rattle.coco_model.specs.Reach.{Reach}
 use Rattle.coco_model.specs.Roots.{Root}
-use Rattle.coco_model.specs.Roots.Root.{nothing}
 use Rattle.coco_model.specs.Secure.{IsProbe, count_showing}
 use Rattle.coco_model.specs.Findings.{Labels, IsSeen}
 use Rattle.model_laws.proofs.Calms.{vary_or_not}
 use Rattle.coco_model.proofs.Keepers.{before_below}
-use Rattle.model_laws.proofs.Rooted.{root_law}
-use Rattle.model_laws.specs.Laws.{RootLaw, HasMeaning}
+use Rattle.model_laws.specs.Laws.{HasMeaning}
 use Rattle.walsh_laws.specs.Sums.{parity_below}
 use Rattle.walsh_laws.specs.Laws.{is_odd, IsShownSet, IsUncorrelated, count_with_values, CountingLaw}
 use Rattle.walsh_laws.specs.Security.{IsSimulated, is_odd_in_run, IsRunUncorrelated, RunCountingLaw}
@@ -28,7 +26,7 @@ use Rattle.walsh_laws.proofs.Totals.{sign_total-cong}
 use Rattle.walsh_laws.proofs.Parity.{parity-cong_members}
 use Rattle.walsh_laws.proofs.Counting.{counting_law}
 use Rattle.walsh_laws.proofs.Numbering.{number_count, number-inside, at_number, at_number-number}
-use Rattle.walsh_laws.proofs.RunNodes.{IsReady, index_of, nothing_node, run_nodes, run_values, are_values, value_at}
+use Rattle.walsh_laws.proofs.RunNodes.{IsReady, index_of, nothing_node, nothing_if_known, run_nodes, run_values, are_values, value_at}
 use Rattle.walsh_laws.proofs.Listing.{listing, IsListed, listing-member, listing-once, listing-parity}
 use Rattle.walsh_laws.proofs.Observed.{reached_inside, shown_numbers, AreNumbered, observed, IsShownNumber, shown_number, shows_when}
 use Rattle.walsh_laws.proofs.Ready.{AreReached, reached_of, ready_of, meaning_of, same_row, simulated_by}
@@ -91,10 +89,6 @@ module _ (flat : Flat) (setup : Setup) (cycles : ℕ) (rank : ℕ → ℕ) (row 
   pair_one probes i j s u e =
       sym s.number ∙ ap (λ (p : Probe). index_of flat rank p.cycle p.bit) (sym (pair_is probes i s) ∙ e ∙ pair_is probes j u) ∙ u.number
 
-  nothing_if_known : (t b : ℕ) → t < cycles → row t b ≢ Vary → root t b ≡ nothing
-  unfolding RootLaw
-  nothing_if_known t b below = (root_law flat setup cycles rank row word ready.checked ready.starts root rooted ready.is_rooted t b below).1
-
   -- a node that is not nothing is of an unknown bit
   unknown_node : (t b : ℕ) → t < cycles → b < flat.bits → run_nodes flat cycles rank row root (index_of flat rank t b) ≢ Nothing
       → row t b ≡ Vary
@@ -102,7 +96,8 @@ module _ (flat : Flat) (setup : Setup) (cycles : ℕ) (rank : ℕ → ℕ) (row 
     where
       go : (row t b ≡ Vary) ⊎ (row t b ≢ Vary) → row t b ≡ Vary
       go (inl e) = e
-      go (inr k) = absurd (n (nothing_node flat cycles rank row root t b below inside (nothing_if_known t b below k)))
+      go (inr k) = absurd (n (nothing_node flat cycles rank row root t b below inside
+          (nothing_if_known flat setup cycles rank row word root rooted ready t b below k)))
 
   -- shown nodes correlate with no secret bits where the pairs that they stand for do not
   uncorrelated : (run : Choice → ℕ → Valuation) (memory : Choice → ℕ → Memory) → AreRuns flat setup cycles run memory
@@ -196,6 +191,16 @@ seen_cycle flat setup cycles row reach probes each u s = go s.shows.when
     go : (u.cycle ≡ s.probe.cycle) ⊎ (suc u.cycle ≡ s.probe.cycle) → u.cycle < cycles
     go (inl e) = let b = (each s.probe s.listed).cycle in omega arith
     go (inr e) = let b = (each s.probe s.listed).cycle in omega arith
+
+-- and a bit of the netlist
+pub seen_inside : (flat : Flat) (setup : Setup) (cycles : ℕ) → IsInRange flat → (row calm : ℕ → Row) (reach : Reach)
+    → AreReached flat setup cycles row calm reach
+    → (seen_row : ℕ → Row) (probes : List Probe) → ((p : Probe) → Contains probes p → IsProbe flat setup cycles p)
+    → (u : Probe) → IsSeen seen_row reach probes u → u.bit < flat.bits
+seen_inside flat setup cycles range row calm reach reached seen_row probes each u s =
+    reached_inside flat (calm s.probe.cycle) u.bit s.probe.bit range
+    (((reached.reached s.probe.cycle (each s.probe s.listed).cycle s.probe.bit (each s.probe s.listed).bit).1 u.bit).0 s.shows.reached)
+    (each s.probe s.listed).bit
 
 pub run_counting_law : RunCountingLaw
 unfolding RunCountingLaw

@@ -116,7 +116,7 @@ cell_of flat driven b h = go (some_from_any (λ (c : FlatCell). c.output ≡ b) 
 module _ (flat : Flat) (setup : Setup) (cycles : ℕ) (rank : ℕ → ℕ) (row : ℕ → Row) (word : ℕ → ℕ → Row) (root : ℕ → ℕ → Root)
     (rooted : ℕ → ℕ → ℕ → Root)
     (ready : IsReady flat setup cycles rank row word root rooted) where
-  in_range : (t b : ℕ) → t < cycles → IsRootInRange flat (label_count setup.table cycles) t b (root t b)
+  pub in_range : (t b : ℕ) → t < cycles → IsRootInRange flat (label_count setup.table cycles) t b (root t b)
   unfolding RootLaw
   in_range t b below = (root_law flat setup cycles rank row word ready.checked ready.starts root rooted ready.is_rooted t b below).3
 
@@ -125,7 +125,7 @@ module _ (flat : Flat) (setup : Setup) (cycles : ℕ) (rank : ℕ → ℕ) (row 
   unfolding RootLaw
   value_of_root t b below = (root_law flat setup cycles rank row word ready.checked ready.starts root rooted ready.is_rooted t b below).0
 
-  nothing_if_known : (t b : ℕ) → t < cycles → row t b ≢ Vary → root t b ≡ nothing
+  pub nothing_if_known : (t b : ℕ) → t < cycles → row t b ≢ Vary → root t b ≡ nothing
   unfolding RootLaw
   nothing_if_known t b below = (root_law flat setup cycles rank row word ready.checked ready.starts root rooted ready.is_rooted t b below).1
 
@@ -146,7 +146,7 @@ module _ (flat : Flat) (setup : Setup) (cycles : ℕ) (rank : ℕ → ℕ) (row 
   known_value t below choice v m run = (known_law flat setup cycles rank row word ready.checked choice v m run t below).0
 
   -- an output that is a root of a bit is of an earlier cycle, or the bit's own
-  output_below : (t b s c : ℕ) → t < cycles → root t b ≡ output s c → c < flat.bits
+  pub output_below : (t b s c : ℕ) → t < cycles → root t b ≡ output s c → c < flat.bits
   output_below t b s c below e = go (some_from_any (λ (x : FlatCell). x.output ≡ c) flat.cells ((in_range t b below).cells s c e))
     where
       go : IsSome (λ (x : FlatCell). x.output ≡ c) flat.cells → c < flat.bits

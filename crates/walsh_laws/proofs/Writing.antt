@@ -1,39 +1,29 @@
 -- Findings and written findings.
-use Rattle.std.proofs.Common.{◌≡◌, ℕ, zero, suc, ◌<◌, ◌≤◌, ◌⊎◌, inl, inr, false, List, map, length, get_or, sym, ◌∙◌, ap, subst, arith}
-use Rattle.std.specs.Prelude.{Contains}
+use Rattle.std.proofs.Common.{◌≡◌, ℕ, ◌<◌, ◌≤◌, ◌⊎◌, inl, inr, false, List, map, length, get_or, sym, ◌∙◌, ap, subst, arith}
 use Rattle.std.specs.List.{range_with_len}
 use Rattle.std.proofs.Math.Path.{fun_ext}
 use Rattle.std.proofs.lemmas.Bool.{cases_lt}
 use Rattle.std.proofs.lemmas.List.FromFn.{get_or-map-range_with_len, length-map-range_with_len}
 use Rattle.coco_base.specs.declared.netlist.Flat.{Flat}
-use Rattle.coco_base.specs.declared.netlist.FlatCell.{FlatCell}
 use Rattle.coco_base.specs.declared.setup.Setup.{Setup}
 use Rattle.coco_base.specs.declared.finding.Probe.{Probe}
 use Rattle.coco_base.specs.declared.unrolled.Node.{Node}
 use Rattle.coco_base.specs.declared.unrolled.Node.TheVariants.{Nothing}
 use Rattle.coco_model.specs.Labels.{parity}
-use Rattle.coco_model.specs.Carried.{IsNext}
-use Rattle.coco_model.specs.Run.{before}
-use Rattle.coco_model.specs.Known.{Row, ones}
-use Rattle.coco_model.specs.Reach.{Reach, IsReach}
-use Rattle.coco_model.specs.Roots.{Root, roots, IsSteady, IsKept, HasCellRoot, IsRooted}
-use Rattle.coco_model.specs.Roots.Root.{output}
-use Rattle.coco_model.specs.Secure.{IsProbe}
-use Rattle.coco_model.specs.Findings.{Labels, IsChosen, IsSelection, IsSeen, IsWhole, set_of_pairs, HasFinding}
+use Rattle.coco_model.specs.Known.{Row}
+use Rattle.coco_model.specs.Reach.{Reach}
+use Rattle.coco_model.specs.Roots.{Root}
+use Rattle.coco_model.specs.Findings.{Labels, IsWhole, set_of_pairs, HasFinding}
 use Rattle.coco_model.specs.Nodes.{IsNodeSet, IsAllowedChoice, node_set, IsNodeSelection}
 use Rattle.coco_model.specs.WrittenFindings.{set_of_nodes, IsWrittenFinding, HasWrittenFinding}
-use Rattle.coco_model.proofs.Keepers.{before_below}
-use Rattle.model_laws.proofs.Unique.{one_rooted_law}
-use Rattle.model_laws.proofs.Reached.{one_reach_law}
 use Rattle.model_laws.proofs.Selected.{node_sets_law, root_sets_law}
-use Rattle.model_laws.specs.Laws.{OneRootedLaw, OneReachLaw, NodeSetsLaw, RootSetsLaw, HasSelection}
+use Rattle.model_laws.specs.Laws.{NodeSetsLaw, RootSetsLaw, HasSelection}
 use Rattle.walsh_laws.specs.Written.{IsPlaceOf, AreWrittenOver, WritingLaw, ReadingLaw}
 use Rattle.walsh_laws.specs.Covered.{HasFindingOver}
 use Rattle.walsh_laws.proofs.OneFinding.{one_finding}
-use Rattle.walsh_laws.proofs.Observed.{reached_inside}
-use Rattle.walsh_laws.proofs.Ready.{same_row, ready_of, AreReached, reached_of}
+use Rattle.walsh_laws.proofs.Ready.{ready_of, AreReached, reached_of}
 use Rattle.walsh_laws.proofs.RunCorrelation.{map-cong, output_not_later}
-use Rattle.walsh_laws.proofs.RunCounting.{seen_cycle}
+use Rattle.walsh_laws.proofs.RunCounting.{seen_cycle, seen_inside}
 use Rattle.walsh_laws.proofs.Sorting.{ascending_once, IsSorted, sorted}
 use Rattle.walsh_laws.proofs.NodeNumbers.{IsNumberFor, number_for, node_set_by}
 
@@ -43,15 +33,6 @@ module _ (flat : Flat) (setup : Setup) (cycles : ℕ) (rank : ℕ → ℕ) (row 
     → ℕ) (nodes : List Node) (over : AreWrittenOver flat setup cycles rank row word root rooted reach index nodes) where
   are_reached : AreReached flat setup cycles row over.reached.calm reach
   are_reached = reached_of flat setup cycles rank row word over.simulated reach over.reached
-
-  -- what probes show are bits of the run
-  seen_bit : (other : ℕ → Row) (probes : List Probe) → ((p : Probe) → Contains probes p → IsProbe flat setup cycles p) → (u : Probe)
-      → IsSeen other reach probes u → u.bit < flat.bits
-  seen_bit other probes each u s = reached_inside flat (over.reached.calm s.probe.cycle) u.bit s.probe.bit over.simulated.range
-      (((are_reached.reached s.probe.cycle is_probe.cycle s.probe.bit is_probe.bit).1 u.bit).0 s.shows.reached) is_probe.bit
-    where
-      is_probe : IsProbe flat setup cycles s.probe
-      is_probe = each s.probe s.listed
 
   -- a written finding is one over roots
   pub finding_from : (d : ℕ) (probes pairs : List Probe) (numbers : List ℕ) (sets : ℕ → Labels)
@@ -101,7 +82,8 @@ module _ (flat : Flat) (setup : Setup) (cycles : ℕ) (rank : ℕ → ℕ) (row 
           same : (l : ℕ) → set_of_nodes index sets pairs l ≡ set_of_pairs root h.set_of pairs l
           same l = ap parity (map-cong (λ (u : Probe). sets (index u.cycle u.bit) l) (λ (u : Probe). h.set_of (root u.cycle u.bit) l) pairs
               (λ u i. h.same u.cycle u.bit l (seen_cycle flat setup cycles row reach probes w.is_try.each u (w.is_try.seen u i))
-              (seen_bit row probes w.is_try.each u (w.is_try.seen u i))))
+              (seen_inside flat setup cycles over.simulated.range row over.reached.calm reach are_reached row probes w.is_try.each u
+              (w.is_try.seen u i))))
 
   -- the sets of nodes by those of roots
   set_at : (Root → Labels) → (i : ℕ) → (i < length nodes) ⊎ (length nodes ≤ i) → Labels
@@ -118,8 +100,9 @@ module _ (flat : Flat) (setup : Setup) (cycles : ℕ) (rank : ℕ → ℕ) (row 
       go p = let e = over.listed.stand.apart t b p.cycle p.bit inside p.inside p.number in
           ap (λ s. set_of (root s p.bit) l) (sym e.0) ∙ ap (λ c. set_of (root t c) l) (sym e.1)
 
-  pub written_from : (d : ℕ) → HasFindingOver flat setup cycles d row reach root → HasWrittenFinding flat setup cycles d index row reach nodes
-  unfolding NodeSetsLaw set_at
+  pub written_from : (d : ℕ) → HasFindingOver flat setup cycles d row reach root
+      → HasWrittenFinding flat setup cycles d index row reach nodes
+  unfolding NodeSetsLaw set_at are_reached
   written_from d h = go (sorted h.probes h.finding.different) (sorted h.pairs h.finding.once)
     where
       sets : ℕ → Labels
@@ -195,7 +178,8 @@ module _ (flat : Flat) (setup : Setup) (cycles : ℕ) (rank : ℕ → ℕ) (row 
           same l = us.parities (λ (u : Probe). sets (index u.cycle u.bit) l)
               ∙ ap parity (map-cong (λ (u : Probe). sets (index u.cycle u.bit) l) (λ (u : Probe). h.set_of (root u.cycle u.bit) l) h.pairs
               (λ u i. sets_same u.cycle u.bit l (seen_cycle flat setup cycles row reach h.probes h.finding.each u (h.finding.seen u i))
-              (seen_bit row h.probes h.finding.each u (h.finding.seen u i))))
+              (seen_inside flat setup cycles over.simulated.range row over.reached.calm reach are_reached row h.probes h.finding.each u
+              (h.finding.seen u i))))
 
 pub writing_law : WritingLaw
 unfolding WritingLaw
