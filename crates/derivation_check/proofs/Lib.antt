@@ -8,3 +8,4 @@ pub mod Refutations
 pub mod Printing
 pub mod Numbers
 pub mod Reading
+pub mod Again

@@ -163,7 +163,7 @@ items_prefix {X} text Good told (d ∷ done) (x ∷ xs) now tail gd gx e =
     let b : xs ≡ done ++ r.0 = r.1 in
     (r.0, cc, r.2)
 
-good_behind : {X : Type 0} (Good : X → Type 0) (done : List X) (x : X) (rest : List X) → All Good (done ++ x ∷ rest) → Good x
+pub good_behind : {X : Type 0} (Good : X → Type 0) (done : List X) (x : X) (rest : List X) → All Good (done ++ x ∷ rest) → Good x
 good_behind Good [] x rest all = all_first Good x rest all
 good_behind Good (d ∷ done) x rest all = good_behind Good done x rest (all_rest Good d (done ++ x ∷ rest) all)
 

@@ -1,4 +1,5 @@
 ghost use Rattle.std.specs.Prelude.{◌≡◌, ℕ, ◌≤◌, ◌++◌, List, MatchBool, MatchResult, IfOk, IfErr, IfSome, IfNone};
+ghost use Rattle.clause_store.specs.declared.line.Line.{Line};
 ghost use Rattle.derivation_check.specs.declared.read.ProofFault.TheVariants.{Memory};
 ghost use Rattle.derivation_check.specs.Texts.{head_text, IsProofText};
 ghost use Rattle.derivation_check.specs.Faults.{IsFault};
@@ -48,20 +49,17 @@ fn read_head(reader: &mut Reader) -> Option<u32>
     reader.number(b'\n')
 }
 
-/// Reads the text of a derivation: `proof LINES` and as many lines as `print_derivation` writes them. Numbers are
-/// from 1 to 2147483647 without leading zeros, but for that of the lines, which may be 0; the literals of a line
-/// ascend strictly by variable. It takes memory by the lines that are there.
-pub fn read_derivation(alloc: Global, bytes: &[u8]) -> Result<Derivation, ProofFault>
-    ensures read { IfOk result (λ d. IsProofText bytes.now d.lines) }
-    ensures fault { IfErr result (IsFault bytes.now) }
+/// Reads the whole text of a derivation.
+fn read_all(alloc: Global, reader: &mut Reader) -> Result<Derivation, ProofFault>
+    ensures read { IfOk result (λ d. IsProofText reader.old d.lines) }
+    ensures fault { IfErr result (IsFault reader.old) }
 {
-    let mut reader = Reader::new(bytes);
-    let Some(count) = read_head(&mut reader) else {
+    let Some(count) = read_head(reader) else {
         return Err(ProofFault::BadLine { line: 1 });
     };
     let mut lines = List::new(alloc);
     'reading: for place in 0..count {
-        let Some(line) = read_line(alloc, &mut reader)? else {
+        let Some(line) = read_line(alloc, reader)? else {
             return Err(ProofFault::BadLine { line: place + 2 });
         };
         lines.push(line)?;
@@ -70,4 +68,16 @@ pub fn read_derivation(alloc: Global, bytes: &[u8]) -> Result<Derivation, ProofF
         return Err(ProofFault::BadLine { line: count + 2 });
     }
     Ok(Derivation { lines })
+}
+
+/// Reads the text of a derivation: `proof LINES` and as many lines as `print_derivation` writes them. Numbers are
+/// from 1 to 2147483647 without leading zeros, but for that of the lines, which may be 0; the literals of a line
+/// ascend strictly by variable. It takes memory by the lines that are there.
+pub fn read_derivation(alloc: Global, bytes: &[u8]) -> Result<Derivation, ProofFault>
+    ensures read { IfOk result (λ d. IsProofText bytes.now d.lines) }
+    ensures fault { IfErr result (IsFault bytes.now) }
+    // what was printed is read again
+    ensures again { (lines : List Line) → IsProofText bytes.now lines → MatchResult result (λ d. d.lines ≡ lines) (λ e. e ≡ Memory) }
+{
+    read_all(alloc, &mut Reader::new(bytes))
 }
