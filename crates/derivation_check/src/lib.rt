@@ -9,6 +9,8 @@ mod marks;
 pub mod print;
 pub mod read;
 mod reader;
+#[cfg(test)]
+mod tests;
 pub mod verdict;
 
 pub use laws::refutations_are_sound;
