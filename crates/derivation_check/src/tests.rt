@@ -68,14 +68,35 @@ fn checks_the_unit_clauses(rt: HostRuntime) -> Result<(), Fail> {
     Ok(())
 }
 
+/// The four clauses over two variables, refuted as the document on the texts shows.
 #[test]
-fn refuses_a_second_clash(rt: HostRuntime) -> Result<(), Fail> {
+fn checks_the_documented_texts(rt: HostRuntime) -> Result<(), Fail> {
     let alloc = rt.alloc();
     let mut store = Store::new(alloc);
-    add(&rt, &mut store, &[lit(0, true), lit(1, true)])?;
-    add(&rt, &mut store, &[lit(0, false), lit(1, false)])?;
-    let verdict = verdict_of(&rt, alloc, &store, b"proof 1\n0 1 1 2 0\n")?;
-    assert_eq!(rt; verdict, Verdict::Wrong { line: 1 });
+    for (one, other) in [(true, true), (false, true), (true, false), (false, false)] {
+        add(&rt, &mut store, &[lit(0, one), lit(1, other)])?;
+    }
+    let formula = print_formula(alloc, &store, 2)?;
+    assert_eq!(rt;
+        formula.as_slice(),
+        b"p cnf 2 4\n1 2 0\n-1 2 0\n1 -2 0\n-1 -2 0\n".as_slice()
+    );
+    for (text, want) in [
+        (
+            b"proof 3\n2 0 1 1 2 0\n-2 0 3 1 4 0\n0 5 2 6 0\n".as_slice(),
+            Verdict::Empty,
+        ),
+        (
+            b"proof 2\n2 0 1 1 2 0\n0 3 2 5 1 4 2 5 0\n".as_slice(),
+            Verdict::Empty,
+        ),
+        (
+            b"proof 1\n0 1 1 4 0\n".as_slice(),
+            Verdict::Wrong { line: 1 },
+        ),
+    ] {
+        assert_eq!(rt; verdict_of(&rt, alloc, &store, text)?, want);
+    }
     Ok(())
 }
 
