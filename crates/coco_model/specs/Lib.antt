@@ -14,5 +14,6 @@ pub mod SecureInTime
 pub mod Roots
 pub mod Findings
 pub mod Nodes
+pub mod WrittenFindings
 pub mod Cones
 pub mod Examples

@@ -69,12 +69,14 @@ passing_or_none (suc n) p = go (passing_or_none n (λ c. p (false ∷ c))) (pass
         all (true ∷ c) h = n1 c (omega arith)
 
 -- filtered lists
-length-filter-map : {X Y : Type 0} (p : Y → Bool) (f : X → Y) (xs : List X) → length (filter p (map f xs)) ≡ length (filter (λ x. p (f x)) xs)
+length-filter-map : {X Y : Type 0} (p : Y → Bool) (f : X → Y) (xs : List X)
+    → length (filter p (map f xs)) ≡ length (filter (λ x. p (f x)) xs)
 length-filter-map p f [] = refl
 length-filter-map p f (x ∷ xs) = go (p (f x)) (length-filter-map p f xs)
   where
     go : (b : Bool) → length (filter p (map f xs)) ≡ length (filter (λ x. p (f x)) xs)
-        → length (cond b (f x ∷ filter p (map f xs)) (filter p (map f xs))) ≡ length (cond b (x ∷ filter (λ x. p (f x)) xs) (filter (λ x. p (f x)) xs))
+        → length (cond b (f x ∷ filter p (map f xs)) (filter p (map f xs)))
+        ≡ length (cond b (x ∷ filter (λ x. p (f x)) xs) (filter (λ x. p (f x)) xs))
     go true rest = ap suc rest
     go false rest = rest
 
@@ -83,7 +85,8 @@ filter-filter p q [] = refl
 filter-filter p q (x ∷ xs) = go (q x) (filter-filter p q xs)
   where
     go : (b : Bool) → filter p (filter q xs) ≡ filter (λ x. q x && p x) xs
-        → filter p (cond b (x ∷ filter q xs) (filter q xs)) ≡ cond (b && p x) (x ∷ filter (λ x. q x && p x) xs) (filter (λ x. q x && p x) xs)
+        → filter p (cond b (x ∷ filter q xs) (filter q xs))
+        ≡ cond (b && p x) (x ∷ filter (λ x. q x && p x) xs) (filter (λ x. q x && p x) xs)
     go true e = rw e refl
     go false e = e
 
@@ -103,7 +106,8 @@ filtered_choices (suc n) p =
     let b = filtered_choices n (λ c. p (true ∷ c)) in
     ap length (filter-append p (map (λ (c : Choice). false ∷ c) (choices n)) (map (λ (c : Choice). true ∷ c) (choices n)))
     ∙ length-++ (filter p (map (λ (c : Choice). false ∷ c) (choices n))) (filter p (map (λ (c : Choice). true ∷ c) (choices n)))
-    ∙ rw (length-filter-map p (λ (c : Choice). false ∷ c) (choices n), length-filter-map p (λ (c : Choice). true ∷ c) (choices n), a, b) refl
+    ∙ rw (length-filter-map p (λ (c : Choice). false ∷ c) (choices n), length-filter-map p (λ (c : Choice). true ∷ c) (choices n), a, b)
+    refl
 
 pub filtered_twice : (n : ℕ) (p q : Choice → Bool) → length (filter p (filter q (choices n))) ≡ count n (λ c. q c && p c)
 filtered_twice n p q = ap length (filter-filter p q (choices n)) ∙ filtered_choices n (λ c. q c && p c)
@@ -120,10 +124,12 @@ length-flipped set (a ∷ c) = ap suc (length-flipped (λ l. set (suc l)) c)
 -- turning bits is one to one, so as many choices pass a test
 pub count_flipped : (n : ℕ) (set : ℕ → Bool) (p : Choice → Bool) → count n (λ c. p (flipped set c)) ≡ count n p
 count_flipped zero set p = refl
-count_flipped (suc n) set p = go (set 0) (count_flipped n (λ l. set (suc l)) (λ c. p (false ∷ c))) (count_flipped n (λ l. set (suc l)) (λ c. p (true ∷ c)))
+count_flipped (suc n) set p = go (set 0) (count_flipped n (λ l. set (suc l)) (λ c. p (false ∷ c)))
+    (count_flipped n (λ l. set (suc l)) (λ c. p (true ∷ c)))
   where
     go : (b : Bool) → count n (λ c. p (false ∷ flipped (λ l. set (suc l)) c)) ≡ count n (λ c. p (false ∷ c))
-        → count n (λ c. p (true ∷ flipped (λ l. set (suc l)) c)) ≡ count n (λ c. p (true ∷ c)) → count n (λ c. p (xor b false ∷ flipped (λ l. set (suc l)) c)) + count n (λ c. p (xor b true ∷ flipped (λ l. set (suc l)) c))
+        → count n (λ c. p (true ∷ flipped (λ l. set (suc l)) c)) ≡ count n (λ c. p (true ∷ c))
+        → count n (λ c. p (xor b false ∷ flipped (λ l. set (suc l)) c)) + count n (λ c. p (xor b true ∷ flipped (λ l. set (suc l)) c))
         ≡ count n (λ c. p (false ∷ c)) + count n (λ c. p (true ∷ c))
     go true e f = omega arith
     go false e f = omega arith

@@ -23,7 +23,8 @@ abbrev pub node_sum : ℕ → (ℕ → Bool) → ℕ → Labels → (Choice → 
 node_sum n members labels W value = total labels (λ c. signed (xor (parity_below n members (value c)) (label_parity W c)) (pos 1))
 
 -- the sets of the places of a subset
-pub chosen_set-parity : (sets : ℕ → Labels) (ss : Subset) (os : List ℕ) (l : ℕ) → chosen_set sets ss os l ≡ chosen_parity ss (map (λ o. sets o l) os)
+pub chosen_set-parity : (sets : ℕ → Labels) (ss : Subset) (os : List ℕ) (l : ℕ)
+    → chosen_set sets ss os l ≡ chosen_parity ss (map (λ o. sets o l) os)
 chosen_set-parity sets [] os l = refl
 chosen_set-parity sets (s ∷ ss) [] l = refl
 chosen_set-parity sets (s ∷ ss) (o ∷ os) l = rw (chosen_set-parity sets ss os l) refl
@@ -33,7 +34,8 @@ chosen_set-cong : (sets other : ℕ → Labels) (ss : Subset) (os : List ℕ) (l
     → chosen_set sets ss os l ≡ chosen_set other ss os l
 chosen_set-cong sets other [] os l e = refl
 chosen_set-cong sets other (s ∷ ss) [] l e = refl
-chosen_set-cong sets other (true ∷ ss) (o ∷ os) l e = rw (e 0 (omega arith) refl, chosen_set-cong sets other ss os l (λ place h k. e (suc place) (omega arith) k)) refl
+chosen_set-cong sets other (true ∷ ss) (o ∷ os) l e = rw
+    (e 0 (omega arith) refl, chosen_set-cong sets other ss os l (λ place h k. e (suc place) (omega arith) k)) refl
 chosen_set-cong sets other (false ∷ ss) (o ∷ os) l e = chosen_set-cong sets other ss os l (λ place h k. e (suc place) (omega arith) k)
 
 -- a node's set by those of the nodes up to it
@@ -62,7 +64,8 @@ put_set-other sets n own i l h = rw (differs i n (λ e. omega arith)) refl
 -- a set for node n, by those of the nodes before
 pub record HasOwnSet (n : ℕ) (node : Node) : Type 0 where
   pub own : (ℕ → Labels) → Labels
-  pub is : (sets other : ℕ → Labels) → ((i : ℕ) → i < n → (l : ℕ) → other i l ≡ sets i l) → ((l : ℕ) → other n l ≡ own sets l) → IsNodeSet other n node
+  pub is : (sets other : ℕ → Labels) → ((i : ℕ) → i < n → (l : ℕ) → other i l ≡ sets i l) → ((l : ℕ) → other n l ≡ own sets l)
+      → IsNodeSet other n node
 
 -- a problem over one node less, whose solution gives one of node n
 pub record IsStep (n : ℕ) (node : Node) (labels : ℕ) (value : Choice → ℕ → Bool) (members : ℕ → Bool) (W : Labels) : Type 0 where
@@ -71,13 +74,15 @@ pub record IsStep (n : ℕ) (node : Node) (labels : ℕ) (value : Choice → ℕ
   pub inside : (l : ℕ) → labels ≤ l → left l ≡ false
   pub remains : node_sum n fewer labels left value ≢ pos 0
   pub own_set : HasOwnSet n node
-  pub joins : (sets : ℕ → Labels) (l : ℕ) → left l ≡ parity_below n fewer (λ i. sets i l) → W l ≡ xor (own_set.own sets l) (parity_below n members (λ i. sets i l))
+  pub joins : (sets : ℕ → Labels) (l : ℕ) → left l ≡ parity_below n fewer (λ i. sets i l)
+      → W l ≡ xor (own_set.own sets l) (parity_below n members (λ i. sets i l))
 
 chosen_before : (i : ℕ) (ps : List Part) (os : List ℕ) (ss : Subset) → AreOperandsBefore i ps os → IsSubsetOf ss ps
     → (place : ℕ) → place < length os → get_or ss place false ≡ true → get_or os place 0 < i
 chosen_before i ps os ss before subset place h e = before.before place (subset.varies place e)
 
-gate_set : (n : ℕ) (kind : Kind) (parts : List Part) (operands : List ℕ) (ss : Subset) → AreOperandsBefore n (input_places kind parts) (input_places kind operands)
+gate_set : (n : ℕ) (kind : Kind) (parts : List Part) (operands : List ℕ) (ss : Subset)
+    → AreOperandsBefore n (input_places kind parts) (input_places kind operands)
     → IsSubsetOf ss (input_places kind parts) → signed_total (λ xs. signed (output_of kind xs) (pos 1)) ss (input_places kind parts) ≢ pos 0
     → HasOwnSet n (Gate kind parts operands)
 gate_set n kind parts operands ss before subset sum = record {
@@ -99,19 +104,25 @@ any_set : (n labels : ℕ) (value : Choice → ℕ → Bool) (node : Node) → I
 any_set n labels value Nothing holds = record { own = λ sets l. false; is = λ sets other e f. f }
 any_set n labels value (Label k) holds = record { own = λ sets l. nat_eq k l; is = λ sets other e f. f }
 any_set n labels value (Copy j) holds = record { own = λ sets. sets j; is = λ sets other e f l. f l ∙ sym (e j holds.0 l) }
-any_set n labels value (Gate kind parts operands) holds = go (gate_step (λ xs. signed (output_of kind xs) (pos 1)) 0 (λ c i. false) (λ c. false)
-    (input_places kind parts) (input_places kind operands) holds.earlier.as_long (one_not_zero (output_of kind (input_values (λ i. false) (input_places kind parts) (input_places kind operands)))))
+any_set n labels value (Gate kind parts operands) holds = go
+    (gate_step (λ xs. signed (output_of kind xs) (pos 1)) 0 (λ c i. false) (λ c. false)
+    (input_places kind parts) (input_places kind operands) holds.earlier.as_long
+    (one_not_zero (output_of kind (input_values (λ i. false) (input_places kind parts) (input_places kind operands)))))
   where
-    go : IsGateStep (λ xs. signed (output_of kind xs) (pos 1)) 0 (λ c i. false) (λ c. false) (input_places kind parts) (input_places kind operands) → HasOwnSet n (Gate kind parts operands)
+    go : IsGateStep (λ xs. signed (output_of kind xs) (pos 1)) 0 (λ c i. false) (λ c. false) (input_places kind parts)
+        (input_places kind operands) → HasOwnSet n (Gate kind parts operands)
     go s = gate_set n kind parts operands s.subset holds.earlier s.unknown s.signed_sum
 
 -- the sum with node n in front
 abbrev sum_with : ℕ → (ℕ → Bool) → ℕ → Labels → (Choice → ℕ → Bool) → ℤ
-sum_with n members labels W value = total labels (λ c. signed (xor (xor (value c n) (parity_below n members (value c))) (label_parity W c)) (pos 1))
+sum_with n members labels W value = total labels
+    (λ c. signed (xor (xor (value c n) (parity_below n members (value c))) (label_parity W c)) (pos 1))
 
-gate_join : (n labels : ℕ) (value : Choice → ℕ → Bool) (kind : Kind) (parts : List Part) (operands : List ℕ) (members : ℕ → Bool) (W : Labels)
+gate_join : (n labels : ℕ) (value : Choice → ℕ → Bool) (kind : Kind) (parts : List Part) (operands : List ℕ) (members : ℕ → Bool)
+    (W : Labels)
     → IsGateValue labels value n kind parts operands → ((l : ℕ) → labels ≤ l → W l ≡ false)
-    → IsGateStep (λ xs. signed (output_of kind xs) (pos 1)) labels value (λ c. xor (parity_below n members (value c)) (label_parity W c)) (input_places kind parts) (input_places kind operands)
+    → IsGateStep (λ xs. signed (output_of kind xs) (pos 1)) labels value (λ c. xor (parity_below n members (value c)) (label_parity W c))
+    (input_places kind parts) (input_places kind operands)
     → IsStep n (Gate kind parts operands) labels value members W
 unfolding gate_set
 gate_join n labels value kind parts operands members W holds inside s = record {
@@ -122,15 +133,19 @@ gate_join n labels value kind parts operands members W holds inside s = record {
   own_set = gate_set n kind parts operands s.subset holds.earlier s.unknown s.signed_sum;
   joins = λ sets l e. e ∙ parity-xor n (picked s.subset (input_places kind operands)) members (λ i. sets i l)
       ∙ ap (λ b. xor b (parity_below n members (λ i. sets i l)))
-      (parity_picked n s.subset (input_places kind operands) (λ i. sets i l) before ∙ sym (chosen_set-parity sets s.subset (input_places kind operands) l));
+      (parity_picked n s.subset (input_places kind operands) (λ i. sets i l) before
+      ∙ sym (chosen_set-parity sets s.subset (input_places kind operands) l));
 }
   where
-    before : (place : ℕ) → place < length (input_places kind operands) → get_or s.subset place false ≡ true → get_or (input_places kind operands) place 0 < n
+    before : (place : ℕ) → place < length (input_places kind operands) → get_or s.subset place false ≡ true
+        → get_or (input_places kind operands) place 0 < n
     before = chosen_before n (input_places kind parts) (input_places kind operands) s.subset holds.earlier s.unknown
 
-    moved : (c : Choice) → xor (chosen_parity s.subset (map (value c) (input_places kind operands))) (xor (parity_below n members (value c)) (label_parity W c))
+    moved : (c : Choice) → xor (chosen_parity s.subset (map (value c) (input_places kind operands)))
+        (xor (parity_below n members (value c)) (label_parity W c))
         ≡ xor (parity_below n (λ i. xor (picked s.subset (input_places kind operands) i) (members i)) (value c)) (label_parity W c)
-    moved c = sym (xor-assoc (chosen_parity s.subset (map (value c) (input_places kind operands))) (parity_below n members (value c)) (label_parity W c))
+    moved c = sym (xor-assoc (chosen_parity s.subset (map (value c) (input_places kind operands))) (parity_below n members (value c))
+        (label_parity W c))
         ∙ ap (λ b. xor b (label_parity W c)) (sym (parity-xor n (picked s.subset (input_places kind operands)) members (value c)
         ∙ ap (λ b. xor b (parity_below n members (value c))) (parity_picked n s.subset (input_places kind operands) (value c) before)))
 
@@ -141,13 +156,15 @@ step n labels value Nothing holds members W inside k = record {
   fewer = members;
   left = W;
   inside = inside;
-  remains = λ e. k (total-cong labels _ _ (λ c h. constant c h) ∙ total-signed labels holds.0 (λ c. signed (xor (parity_below n members (value c)) (label_parity W c)) (pos 1))
+  remains = λ e. k (total-cong labels _ _ (λ c h. constant c h)
+      ∙ total-signed labels holds.0 (λ c. signed (xor (parity_below n members (value c)) (label_parity W c)) (pos 1))
       ∙ ap (signed holds.0) e ∙ signed-zero holds.0);
   own_set = any_set n labels value Nothing holds;
   joins = λ sets l e. e;
 }
   where
-    constant : (c : Choice) → length c ≡ labels → signed (xor (xor (value c n) (parity_below n members (value c))) (label_parity W c)) (pos 1)
+    constant : (c : Choice) → length c ≡ labels
+        → signed (xor (xor (value c n) (parity_below n members (value c))) (label_parity W c)) (pos 1)
         ≡ signed holds.0 (signed (xor (parity_below n members (value c)) (label_parity W c)) (pos 1))
     constant c h = rw (holds.1 c h, xor-assoc holds.0 (parity_below n members (value c)) (label_parity W c)) (signed-xor holds.0 _ (pos 1))
 step n labels value (Label j) holds members W inside k = record {
@@ -161,28 +178,39 @@ step n labels value (Label j) holds members W inside k = record {
   where
     moved : (c : Choice) → length c ≡ labels → xor (xor (value c n) (parity_below n members (value c))) (label_parity W c)
         ≡ xor (parity_below n members (value c)) (label_parity (λ l. xor (nat_eq j l) (W l)) c)
-    moved c h = rw (holds.1 c h, xor-assoc (label_bit c j) (parity_below n members (value c)) (label_parity W c), xor-swap (label_bit c j) (parity_below n members (value c)) (label_parity W c))
-        (ap (xor (parity_below n members (value c))) (sym (label_parity-xor (nat_eq j) W c ∙ ap (λ b. xor b (label_parity W c)) (label_parity_one j c))))
+    moved c h = rw (
+      holds.1 c h,
+      xor-assoc (label_bit c j) (parity_below n members (value c)) (label_parity W c),
+      xor-swap (label_bit c j)
+          (parity_below n members (value c)) (label_parity W c),
+    )
+        (ap (xor (parity_below n members (value c))) (sym (label_parity-xor (nat_eq j) W c
+        ∙ ap (λ b. xor b (label_parity W c)) (label_parity_one j c))))
 step n labels value (Copy j) holds members W inside k = record {
   fewer = λ i. xor (nat_eq j i) (members i);
   left = W;
   inside = inside;
   remains = λ e. k (total-cong labels _ _ (λ c h. ap (λ b. signed b (pos 1)) (moved c h)) ∙ e);
   own_set = any_set n labels value (Copy j) holds;
-  joins = λ sets l e. e ∙ parity-xor n (nat_eq j) members (λ i. sets i l) ∙ ap (λ b. xor b (parity_below n members (λ i. sets i l))) (parity_one n j (λ i. sets i l) holds.0);
+  joins = λ sets l e. e ∙ parity-xor n (nat_eq j) members (λ i. sets i l)
+      ∙ ap (λ b. xor b (parity_below n members (λ i. sets i l))) (parity_one n j (λ i. sets i l) holds.0);
 }
   where
     moved : (c : Choice) → length c ≡ labels → xor (xor (value c n) (parity_below n members (value c))) (label_parity W c)
         ≡ xor (parity_below n (λ i. xor (nat_eq j i) (members i)) (value c)) (label_parity W c)
-    moved c h = ap (λ b. xor b (label_parity W c)) (ap (λ b. xor b (parity_below n members (value c))) (holds.1 c h ∙ sym (parity_one n j (value c) holds.0))
+    moved c h = ap (λ b. xor b (label_parity W c)) (ap (λ b. xor b (parity_below n members (value c)))
+        (holds.1 c h ∙ sym (parity_one n j (value c) holds.0))
         ∙ sym (parity-xor n (nat_eq j) members (value c)))
 step n labels value (Gate kind parts operands) holds members W inside k =
     gate_join n labels value kind parts operands members W holds inside (gate_step (λ xs. signed (output_of kind xs) (pos 1)) labels value
-    (λ c. xor (parity_below n members (value c)) (label_parity W c)) (input_places kind parts) (input_places kind operands) holds.earlier.as_long
+    (λ c. xor (parity_below n members (value c)) (label_parity W c)) (input_places kind parts) (input_places kind operands)
+    holds.earlier.as_long
     (λ e. k (total-cong labels _ _ (λ c h. in_front c h) ∙ e)))
   where
-    in_front : (c : Choice) → length c ≡ labels → signed (xor (xor (value c n) (parity_below n members (value c))) (label_parity W c)) (pos 1)
-        ≡ signed (xor (parity_below n members (value c)) (label_parity W c)) (signed (output_of kind (input_values (value c) (input_places kind parts) (input_places kind operands))) (pos 1))
+    in_front : (c : Choice) → length c ≡ labels
+        → signed (xor (xor (value c n) (parity_below n members (value c))) (label_parity W c)) (pos 1)
+        ≡ signed (xor (parity_below n members (value c)) (label_parity W c))
+        (signed (output_of kind (input_values (value c) (input_places kind parts) (input_places kind operands))) (pos 1))
     in_front c h = rw (
       xor-assoc (value c n) (parity_below n members (value c)) (label_parity W c),
       xor-comm (value c n) (xor (parity_below n members (value c)) (label_parity W c)),
@@ -190,14 +218,18 @@ step n labels value (Gate kind parts operands) holds members W inside k =
       holds.output c h,
     ) refl
 
-join : (n : ℕ) (nodes : ℕ → Node) (labels : ℕ) (value : Choice → ℕ → Bool) (members fewer : ℕ → Bool) (W left : Labels) → AreNodeValues (suc n) nodes labels value
+join : (n : ℕ) (nodes : ℕ → Node) (labels : ℕ) (value : Choice → ℕ → Bool) (members fewer : ℕ → Bool) (W left : Labels)
+    → AreNodeValues (suc n) nodes labels value
     → (own_set : HasOwnSet n (nodes n)) → (r : IsSelected n nodes fewer left)
-    → ((l : ℕ) → W l ≡ xor (members n && own_set.own r.sets l) (parity_below n members (λ i. r.sets i l))) → IsSelected (suc n) nodes members W
+    → ((l : ℕ) → W l ≡ xor (members n && own_set.own r.sets l) (parity_below n members (λ i. r.sets i l)))
+    → IsSelected (suc n) nodes members W
 join n nodes labels value members fewer W left holds own_set r joins = record {
   sets = sets;
   selection = λ i h. each i (cases_lt i n) h;
-  difference = λ l. joins l ∙ ap (λ b. xor (members n && b) (parity_below n members (λ i. r.sets i l))) (sym (put_set-here r.sets n (own_set.own r.sets) l))
-      ∙ ap (xor (members n && sets n l)) (parity-cong n members members (λ i. r.sets i l) (λ i. sets i l) (λ i h. refl) (λ i h. sym (put_set-other r.sets n (own_set.own r.sets) i l h)));
+  difference = λ l. joins l
+      ∙ ap (λ b. xor (members n && b) (parity_below n members (λ i. r.sets i l))) (sym (put_set-here r.sets n (own_set.own r.sets) l))
+      ∙ ap (xor (members n && sets n l)) (parity-cong n members members (λ i. r.sets i l) (λ i. sets i l) (λ i h. refl)
+      (λ i h. sym (put_set-other r.sets n (own_set.own r.sets) i l h)));
 }
   where
     sets : ℕ → Labels
@@ -209,11 +241,13 @@ join n nodes labels value members fewer W left holds own_set r joins = record {
     each i (inr h) b = subst (λ j. IsNodeSet sets j (nodes j)) (let e : n ≡ i = omega arith in e)
         (own_set.is r.sets sets (λ j k l. put_set-other r.sets n (own_set.own r.sets) j l k) (put_set-here r.sets n (own_set.own r.sets)))
 
-fewer_values : (n : ℕ) (nodes : ℕ → Node) (labels : ℕ) (value : Choice → ℕ → Bool) → AreNodeValues (suc n) nodes labels value → AreNodeValues n nodes labels value
+fewer_values : (n : ℕ) (nodes : ℕ → Node) (labels : ℕ) (value : Choice → ℕ → Bool) → AreNodeValues (suc n) nodes labels value
+    → AreNodeValues n nodes labels value
 fewer_values n nodes labels value holds = record { each = λ i h. holds.each i (omega arith) }
 
 pub correlation : (n : ℕ) (nodes : ℕ → Node) (labels : ℕ) (value : Choice → ℕ → Bool) → AreNodeValues n nodes labels value
-    → (members : ℕ → Bool) (W : Labels) → ((l : ℕ) → labels ≤ l → W l ≡ false) → node_sum n members labels W value ≢ pos 0 → IsSelected n nodes members W
+    → (members : ℕ → Bool) (W : Labels) → ((l : ℕ) → labels ≤ l → W l ≡ false) → node_sum n members labels W value ≢ pos 0
+    → IsSelected n nodes members W
 correlation zero nodes labels value holds members W inside k = record {
   sets = λ i l. false;
   selection = λ i h. absurd (omega arith);
@@ -228,12 +262,15 @@ correlation (suc n) nodes labels value holds members W inside k =
     go (cases_Bool (members n)) (λ U X i m. correlation n nodes labels value (fewer_values n nodes labels value holds) U X i m)
   where
     go : (members n ≡ true) ⊎ (members n ≡ false)
-        → ((U : ℕ → Bool) (X : Labels) → ((l : ℕ) → labels ≤ l → X l ≡ false) → node_sum n U labels X value ≢ pos 0 → IsSelected n nodes U X) → IsSelected (suc n) nodes members W
+        → ((U : ℕ → Bool) (X : Labels) → ((l : ℕ) → labels ≤ l → X l ≡ false) → node_sum n U labels X value ≢ pos 0
+        → IsSelected n nodes U X) → IsSelected (suc n) nodes members W
     go (inr e) rest = apart (rest members W inside (λ z. k (total-cong labels _ _ (λ c h. rw e refl) ∙ z)))
       where
         apart : IsSelected n nodes members W → IsSelected (suc n) nodes members W
-        apart r = join n nodes labels value members members W W holds (any_set n labels value (nodes n) (holds.each n (omega arith))) r (λ l. rw e (r.difference l))
-    go (inl e) rest = taken (step n labels value (nodes n) (holds.each n (omega arith)) members W inside (λ z. k (total-cong labels _ _ (λ c h. rw e refl) ∙ z)))
+        apart r = join n nodes labels value members members W W holds (any_set n labels value (nodes n) (holds.each n (omega arith))) r
+            (λ l. rw e (r.difference l))
+    go (inl e) rest = taken (step n labels value (nodes n) (holds.each n (omega arith)) members W inside
+        (λ z. k (total-cong labels _ _ (λ c h. rw e refl) ∙ z)))
       where
         taken : IsStep n (nodes n) labels value members W → IsSelected (suc n) nodes members W
         taken s = both (rest s.fewer s.left s.inside s.remains)
@@ -247,4 +284,5 @@ correlation_law n nodes labels value holds members W inside k = correlation n no
   where
     sum : sign_total (is_odd n members labels W value) (choices labels) ≡ node_sum n members labels W value
     sum = sign_total-choices labels (is_odd n members labels W value)
-        ∙ total-cong labels _ _ (λ c h. ap (λ b. signed (xor (parity_below n members (value c)) b) (pos 1)) (sym (label_parity-below labels W c h)))
+        ∙ total-cong labels _ _ (λ c h. ap (λ b. signed (xor (parity_below n members (value c)) b) (pos 1))
+        (sym (label_parity-below labels W c h)))

@@ -79,12 +79,14 @@ parity_one_where n o k v below = go (k o) refl
 
     go : (b : Bool) → k o ≡ b → parity_below n (λ i. k i && nat_eq o i) v ≡ (k o && v o)
     go true e = parity-cong n _ _ v v (λ i h. there true e i (cases_eq o i)) (λ i h. refl) ∙ parity_one n o v below ∙ rw e refl
-    go false e = parity-cong n _ (λ i. false) v v (λ i h. there false e i (cases_eq o i)) (λ i h. refl) ∙ parity_none n (λ i. false) v (λ i h. refl) ∙ rw e refl
+    go false e = parity-cong n _ (λ i. false) v v (λ i h. there false e i (cases_eq o i)) (λ i h. refl)
+        ∙ parity_none n (λ i. false) v (λ i h. refl) ∙ rw e refl
 
 -- the values of picked nodes: those that are nothing have one value
 pub record IsPickedValue (n labels : ℕ) (nodes : ℕ → Node) (value : Choice → ℕ → Bool) (subset : Subset) (shown : List ℕ) : Type 0 where
   pub constant : Bool
-  pub is : (c : Choice) → length c ≡ labels → chosen_parity subset (map (value c) shown) ≡ xor constant (parity_below n (picked_nodes nodes subset shown) (value c))
+  pub is : (c : Choice) → length c ≡ labels
+      → chosen_parity subset (map (value c) shown) ≡ xor constant (parity_below n (picked_nodes nodes subset shown) (value c))
 
 and-none : (a : Bool) → (a && false) ≡ false
 and-none true = refl
@@ -93,11 +95,13 @@ and-none false = refl
 nothing_picked : (n : ℕ) (nodes : ℕ → Node) (v : ℕ → Bool) → parity_below n (λ i. is_some_node (nodes i) && false) v ≡ false
 nothing_picked n nodes v = parity_none n _ v (λ i h. and-none (is_some_node (nodes i)))
 
-picked_value : (n labels : ℕ) (nodes : ℕ → Node) (value : Choice → ℕ → Bool) → AreNodeValues n nodes labels value → (subset : Subset) (shown : List ℕ)
+picked_value : (n labels : ℕ) (nodes : ℕ → Node) (value : Choice → ℕ → Bool) → AreNodeValues n nodes labels value
+    → (subset : Subset) (shown : List ℕ)
     → ((i : ℕ) → Contains shown i → i < n) → IsPickedValue n labels nodes value subset shown
 picked_value n labels nodes value holds [] shown below = record { constant = false; is = λ c h. sym (nothing_picked n nodes (value c)) }
 picked_value n labels nodes value holds (s ∷ ss) [] below = record { constant = false; is = λ c h. sym (nothing_picked n nodes (value c)) }
-picked_value n labels nodes value holds (false ∷ ss) (o ∷ os) below = go (picked_value n labels nodes value holds ss os (λ i h. below i (Contains-later o i os h)))
+picked_value n labels nodes value holds (false ∷ ss) (o ∷ os) below = go
+    (picked_value n labels nodes value holds ss os (λ i h. below i (Contains-later o i os h)))
   where
     go : IsPickedValue n labels nodes value ss os → IsPickedValue n labels nodes value (false ∷ ss) (o ∷ os)
     go r = record { constant = r.constant; is = r.is }
@@ -107,7 +111,9 @@ picked_value n labels nodes value holds (true ∷ ss) (o ∷ os) below =
     inside : o < n
     inside = below o (Contains-here o os)
 
-    split : (v : ℕ → Bool) → parity_below n (picked_nodes nodes (true ∷ ss) (o ∷ os)) v ≡ xor (is_some_node (nodes o) && v o) (parity_below n (picked_nodes nodes ss os) v)
+    split : (v : ℕ → Bool)
+        → parity_below n (picked_nodes nodes (true ∷ ss) (o ∷ os)) v
+        ≡ xor (is_some_node (nodes o) && v o) (parity_below n (picked_nodes nodes ss os) v)
     split v = parity-cong n _ (λ i. xor (is_some_node (nodes i) && nat_eq o i) (picked_nodes nodes ss os i)) v v
         (λ i h. and-xor_right (is_some_node (nodes i)) (nat_eq o i) (picked ss os i)) (λ i h. refl)
         ∙ parity-xor n (λ i. is_some_node (nodes i) && nat_eq o i) (picked_nodes nodes ss os) v
@@ -116,14 +122,16 @@ picked_value n labels nodes value holds (true ∷ ss) (o ∷ os) below =
     one_value : nodes o ≡ Nothing → (b : Bool) × ((c : Choice) → length c ≡ labels → value c o ≡ b)
     one_value e = subst (IsNodeValue labels value o) e (holds.each o inside)
 
-    go : IsPickedValue n labels nodes value ss os → (is_some_node (nodes o) ≡ true) ⊎ (is_some_node (nodes o) ≡ false) → IsPickedValue n labels nodes value (true ∷ ss) (o ∷ os)
+    go : IsPickedValue n labels nodes value ss os → (is_some_node (nodes o) ≡ true) ⊎ (is_some_node (nodes o) ≡ false)
+        → IsPickedValue n labels nodes value (true ∷ ss) (o ∷ os)
     go r (inl e) = record {
       constant = r.constant;
       is = λ c h. rw (r.is c h, split (value c), e) (xor-swap (value c o) r.constant (parity_below n (picked_nodes nodes ss os) (value c)));
     }
     go r (inr e) = let one = one_value (nothing_is (nodes o) e) in record {
       constant = xor one.0 r.constant;
-      is = λ c h. rw (r.is c h, split (value c), e, one.1 c h) (sym (xor-assoc one.0 r.constant (parity_below n (picked_nodes nodes ss os) (value c))));
+      is = λ c h. rw (r.is c h, split (value c), e, one.1 c h)
+          (sym (xor-assoc one.0 r.constant (parity_below n (picked_nodes nodes ss os) (value c))));
     }
 
 -- the tests of the secret bits
@@ -133,21 +141,27 @@ secret_tests table = map (λ (ls : List ℕ) (c : Choice). parity (map (label_bi
 abbrev shown_tests : (Choice → ℕ → Bool) → List ℕ → List (Choice → Bool)
 shown_tests value shown = map (λ (i : ℕ) (c : Choice). value c i) shown
 
-values-secrets : (lists : List (List ℕ)) (c : Choice) → values_of (map (λ (ls : List ℕ) (c : Choice). parity (map (label_bit c) ls)) lists) c ≡ map (λ (ls : List ℕ). parity (map (label_bit c) ls)) lists
+values-secrets : (lists : List (List ℕ)) (c : Choice)
+    → values_of (map (λ (ls : List ℕ) (c : Choice). parity (map (label_bit c) ls)) lists) c
+    ≡ map (λ (ls : List ℕ). parity (map (label_bit c) ls)) lists
 values-secrets [] c = refl
 values-secrets (ls ∷ lists) c = ap (λ bs. parity (map (label_bit c) ls) ∷ bs) (values-secrets lists c)
 
-pub values-shown : (value : Choice → ℕ → Bool) (shown : List ℕ) (c : Choice) → values_of (map (λ (i : ℕ) (c : Choice). value c i) shown) c ≡ map (value c) shown
+pub values-shown : (value : Choice → ℕ → Bool) (shown : List ℕ) (c : Choice)
+    → values_of (map (λ (i : ℕ) (c : Choice). value c i) shown) c ≡ map (value c) shown
 values-shown value [] c = refl
 values-shown value (i ∷ shown) c = ap (λ bs. value c i ∷ bs) (values-shown value shown c)
 
 -- a subset of shown nodes and a subset of secret bits are balanced
-balanced_pair : (table : LabelTable) (cycles : ℕ) → IsLabelTable table → (n : ℕ) (nodes : ℕ → Node) (value : Choice → ℕ → Bool) → AreNodeValues n nodes (label_count table cycles) value
+balanced_pair : (table : LabelTable) (cycles : ℕ) → IsLabelTable table → (n : ℕ) (nodes : ℕ → Node) (value : Choice → ℕ → Bool)
+    → AreNodeValues n nodes (label_count table cycles) value
     → (shown : List ℕ) → ((i : ℕ) → Contains shown i → i < n) → IsUncorrelated table cycles n nodes value shown
     → (subset : Subset) (place : ℕ) → place < length (secret_labels table.secrets) → get_or subset place false ≡ true → (seen : Subset)
-    → IsBalanced (label_count table cycles) (λ c. true) (λ c. xor (chosen_parity seen (map (value c) shown)) (chosen_parity subset (secret_bits table c)))
+    → IsBalanced (label_count table cycles) (λ c. true)
+    (λ c. xor (chosen_parity seen (map (value c) shown)) (chosen_parity subset (secret_bits table c)))
 balanced_pair table cycles is n nodes value holds shown below uncorrelated subset place within e seen =
-    balanced_from_total (label_count table cycles) (λ c. xor (chosen_parity seen (map (value c) shown)) (chosen_parity subset (secret_bits table c)))
+    balanced_from_total (label_count table cycles)
+    (λ c. xor (chosen_parity seen (map (value c) shown)) (chosen_parity subset (secret_bits table c)))
     (go (picked_value n (label_count table cycles) nodes value holds seen shown below) (whole_label table is subset place within e))
   where
     W : Labels
@@ -157,8 +171,10 @@ balanced_pair table cycles is n nodes value holds shown below uncorrelated subse
     members = picked_nodes nodes seen shown
 
     go : IsPickedValue n (label_count table cycles) nodes value seen shown → HasLabel subset (secret_labels table.secrets)
-        → total (label_count table cycles) (λ c. signed (xor (chosen_parity seen (map (value c) shown)) (chosen_parity subset (secret_bits table c))) (pos 1)) ≡ pos 0
-    go r m = total-cong (label_count table cycles) _ (λ c. signed r.constant (signed (is_odd n members (label_count table cycles) W value c) (pos 1))) (λ c h. each c h)
+        → total (label_count table cycles) (λ c. signed
+        (xor (chosen_parity seen (map (value c) shown)) (chosen_parity subset (secret_bits table c))) (pos 1)) ≡ pos 0
+    go r m = total-cong (label_count table cycles) _
+        (λ c. signed r.constant (signed (is_odd n members (label_count table cycles) W value c) (pos 1))) (λ c h. each c h)
         ∙ total-signed (label_count table cycles) r.constant (λ c. signed (is_odd n members (label_count table cycles) W value c) (pos 1))
         ∙ ap (signed r.constant) (sym (sign_total-choices (label_count table cycles) (is_odd n members (label_count table cycles) W value))
         ∙ uncorrelated.each members (picked_shown nodes seen shown) W (whole_set table is subset) m.label m.member)
@@ -190,24 +206,33 @@ counted table cycles value shown secrets seen =
 pub counting_law : CountingLaw
 unfolding CountingLaw
 counting_law table cycles is n nodes value holds shown below uncorrelated secrets others e f seen =
-    counted table cycles value shown secrets seen ∙ turned secrets ∙ equal ∙ sym (turned others) ∙ sym (counted table cycles value shown others seen)
+    counted table cycles value shown secrets seen ∙ turned secrets ∙ equal ∙ sym (turned others)
+    ∙ sym (counted table cycles value shown others seen)
   where
-    turned : (given : List Bool) → count (label_count table cycles) (λ c. same_bits (secret_bits table c) given && same_bits (map (value c) shown) seen)
-        ≡ count (label_count table cycles) (λ c. (true && same_bits (values_of (shown_tests value shown) c) seen) && same_bits (values_of (secret_tests table) c) given)
-    turned given = count-cong (label_count table cycles) _ _ (λ c h. and-comm (same_bits (secret_bits table c) given) (same_bits (map (value c) shown) seen)
+    turned : (given : List Bool)
+        → count (label_count table cycles) (λ c. same_bits (secret_bits table c) given && same_bits (map (value c) shown) seen)
+        ≡ count (label_count table cycles) (λ c. (true && same_bits (values_of (shown_tests value shown) c) seen) && same_bits
+        (values_of (secret_tests table) c) given)
+    turned given = count-cong (label_count table cycles) _ _
+        (λ c h. and-comm (same_bits (secret_bits table c) given) (same_bits (map (value c) shown) seen)
         ∙ rw (values-shown value shown c, values-secrets (secret_labels table.secrets) c) refl)
 
     as_many : length (secret_tests table) ≡ secret_bit_count table
     as_many = length-map (secret_labels table.secrets) (λ (ls : List ℕ) (c : Choice). parity (map (label_bit c) ls))
 
     pairs : (subset : Subset) (place : ℕ) → place < length (secret_tests table) → get_or subset place false ≡ true → (picks : Subset)
-        → IsBalanced (label_count table cycles) (λ c. true) (λ c. xor (chosen_parity picks (values_of (shown_tests value shown) c)) (chosen_parity subset (values_of (secret_tests table) c)))
+        → IsBalanced (label_count table cycles) (λ c. true)
+        (λ c. xor (chosen_parity picks (values_of (shown_tests value shown) c)) (chosen_parity subset (values_of (secret_tests table) c)))
     pairs subset place within k picks = balanced-cong (label_count table cycles) _ _ _ _ (λ c h. refl)
         (λ c h. rw (values-shown value shown c, values-secrets (secret_labels table.secrets) c) refl)
         (balanced_pair table cycles is n nodes value holds shown below uncorrelated subset place (let m = as_many in omega arith) k picks)
 
-    equal : count (label_count table cycles) (λ c. (true && same_bits (values_of (shown_tests value shown) c) seen) && same_bits (values_of (secret_tests table) c) secrets)
-        ≡ count (label_count table cycles) (λ c. (true && same_bits (values_of (shown_tests value shown) c) seen) && same_bits (values_of (secret_tests table) c) others)
-    equal = equal_counts (label_count table cycles) (λ c. true && same_bits (values_of (shown_tests value shown) c) seen) (secret_tests table)
-        (λ subset place within k. balanced_showing (label_count table cycles) (λ c. true) (λ c. chosen_parity subset (values_of (secret_tests table) c)) (shown_tests value shown)
+    equal : count (label_count table cycles) (λ c. (true && same_bits (values_of (shown_tests value shown) c) seen) && same_bits
+        (values_of (secret_tests table) c) secrets)
+        ≡ count (label_count table cycles) (λ c. (true && same_bits (values_of (shown_tests value shown) c) seen) && same_bits
+        (values_of (secret_tests table) c) others)
+    equal = equal_counts (label_count table cycles) (λ c. true && same_bits (values_of (shown_tests value shown) c) seen)
+        (secret_tests table)
+        (λ subset place within k. balanced_showing (label_count table cycles) (λ c. true)
+        (λ c. chosen_parity subset (values_of (secret_tests table) c)) (shown_tests value shown)
         (pairs subset place within k) seen) secrets others (e ∙ sym as_many) (f ∙ sym as_many)

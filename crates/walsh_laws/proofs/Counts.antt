@@ -12,7 +12,8 @@ use Rattle.walsh_laws.proofs.Choices.{count, count-cong, count_split, count_none
 pub record IsBalanced (n : ℕ) (p q : Choice → Bool) : Type 0 where
   pub same : count n (λ c. p c && q c) ≡ count n (λ c. p c && not (q c))
 
-pub balanced-cong : (n : ℕ) (p q r s : Choice → Bool) → ((c : Choice) → length c ≡ n → p c ≡ r c) → ((c : Choice) → length c ≡ n → q c ≡ s c) → IsBalanced n p q → IsBalanced n r s
+pub balanced-cong : (n : ℕ) (p q r s : Choice → Bool) → ((c : Choice) → length c ≡ n → p c ≡ r c)
+    → ((c : Choice) → length c ≡ n → q c ≡ s c) → IsBalanced n p q → IsBalanced n r s
 balanced-cong n p q r s e f b = record {
   same = count-cong n _ _ (λ c h. rw (sym (e c h), sym (f c h)) refl) ∙ b.same ∙ count-cong n _ _ (λ c h. rw (e c h, f c h) refl);
 }
@@ -33,18 +34,23 @@ and-group true t u = refl
 and-group false t u = refl
 
 -- a balance with and without a bit is one where the bit is seen
-balanced_half : (n : ℕ) (p q b : Choice → Bool) (x : Bool) → IsBalanced n p q → IsBalanced n p (λ c. xor (b c) (q c)) → IsBalanced n (λ c. p c && has_bit b x c) q
+balanced_half : (n : ℕ) (p q b : Choice → Bool) (x : Bool) → IsBalanced n p q → IsBalanced n p (λ c. xor (b c) (q c))
+    → IsBalanced n (λ c. p c && has_bit b x c) q
 balanced_half n p q b x one two = go x
   where
     quarter : Bool → Bool → ℕ
     quarter u v = count n (λ c. p c && (not (xor (b c) u) && not (xor (q c) v)))
 
-    both : (r : Choice → Bool) (u v : Bool) → ((c : Choice) → (r c && b c) ≡ (not (xor (b c) true) && not (xor (q c) u))) → ((c : Choice) → (r c && not (b c)) ≡ (not (xor (b c) false) && not (xor (q c) v)))
+    both : (r : Choice → Bool) (u v : Bool) → ((c : Choice) → (r c && b c) ≡ (not (xor (b c) true) && not (xor (q c) u)))
+        → ((c : Choice) → (r c && not (b c)) ≡ (not (xor (b c) false) && not (xor (q c) v)))
         → count n (λ c. p c && r c) ≡ quarter true u + quarter false v
     both r u v e f =
-        let a : count n (λ c. (p c && r c) && b c) ≡ quarter true u = count-cong n _ _ (λ c h. and-group (p c) (r c) (b c) ∙ ap (λ y. p c && y) (e c)) in
-        let d : count n (λ c. (p c && r c) && not (b c)) ≡ quarter false v = count-cong n _ _ (λ c h. and-group (p c) (r c) (not (b c)) ∙ ap (λ y. p c && y) (f c)) in
-        let s : count n (λ c. p c && r c) ≡ count n (λ c. (p c && r c) && b c) + count n (λ c. (p c && r c) && not (b c)) = count_split n (λ c. p c && r c) b in
+        let a : count n (λ c. (p c && r c) && b c)
+        ≡ quarter true u = count-cong n _ _ (λ c h. and-group (p c) (r c) (b c) ∙ ap (λ y. p c && y) (e c)) in
+        let d : count n (λ c. (p c && r c) && not (b c))
+        ≡ quarter false v = count-cong n _ _ (λ c h. and-group (p c) (r c) (not (b c)) ∙ ap (λ y. p c && y) (f c)) in
+        let s : count n (λ c. p c && r c)
+        ≡ count n (λ c. (p c && r c) && b c) + count n (λ c. (p c && r c) && not (b c)) = count_split n (λ c. p c && r c) b in
         omega arith
 
     passes_true : (a q : Bool) → (q && a) ≡ (not (xor a true) && not (xor q true))
@@ -97,18 +103,28 @@ balanced_half n p q b x one two = go x
 
     equal_true : quarter true true ≡ quarter true false
     equal_true =
-        let a : count n (λ c. p c && q c) ≡ quarter true true + quarter false true = both q true true (λ c. passes_true (b c) (q c)) (λ c. passes_false (b c) (q c)) in
-        let d : count n (λ c. p c && not (q c)) ≡ quarter true false + quarter false false = both (λ c. not (q c)) false false (λ c. fails_true (b c) (q c)) (λ c. fails_false (b c) (q c)) in
-        let e : count n (λ c. p c && xor (b c) (q c)) ≡ quarter true false + quarter false true = both (λ c. xor (b c) (q c)) false true (λ c. odd_true (b c) (q c)) (λ c. odd_false (b c) (q c)) in
-        let f : count n (λ c. p c && not (xor (b c) (q c))) ≡ quarter true true + quarter false false = both (λ c. not (xor (b c) (q c))) true false (λ c. even_true (b c) (q c)) (λ c. even_false (b c) (q c)) in
+        let a : count n (λ c. p c && q c)
+        ≡ quarter true true + quarter false true = both q true true (λ c. passes_true (b c) (q c)) (λ c. passes_false (b c) (q c)) in
+        let d : count n (λ c. p c && not (q c))
+        ≡ quarter true false + quarter false false = both (λ c. not (q c)) false false (λ c. fails_true (b c) (q c))
+        (λ c. fails_false (b c) (q c)) in
+        let e : count n (λ c. p c && xor (b c) (q c))
+        ≡ quarter true false + quarter false true = both (λ c. xor (b c) (q c)) false true (λ c. odd_true (b c) (q c))
+        (λ c. odd_false (b c) (q c)) in
+        let f : count n (λ c. p c && not (xor (b c) (q c)))
+        ≡ quarter true true + quarter false false = both (λ c. not (xor (b c) (q c))) true false (λ c. even_true (b c) (q c))
+        (λ c. even_false (b c) (q c)) in
         let g : count n (λ c. p c && q c) ≡ count n (λ c. p c && not (q c)) = one.same in
         let h : count n (λ c. p c && xor (b c) (q c)) ≡ count n (λ c. p c && not (xor (b c) (q c))) = two.same in
         omega arith
 
     equal_false : quarter false true ≡ quarter false false
     equal_false =
-        let a : count n (λ c. p c && q c) ≡ quarter true true + quarter false true = both q true true (λ c. passes_true (b c) (q c)) (λ c. passes_false (b c) (q c)) in
-        let d : count n (λ c. p c && not (q c)) ≡ quarter true false + quarter false false = both (λ c. not (q c)) false false (λ c. fails_true (b c) (q c)) (λ c. fails_false (b c) (q c)) in
+        let a : count n (λ c. p c && q c)
+        ≡ quarter true true + quarter false true = both q true true (λ c. passes_true (b c) (q c)) (λ c. passes_false (b c) (q c)) in
+        let d : count n (λ c. p c && not (q c))
+        ≡ quarter true false + quarter false false = both (λ c. not (q c)) false false (λ c. fails_true (b c) (q c))
+        (λ c. fails_false (b c) (q c)) in
         let g : count n (λ c. p c && q c) ≡ count n (λ c. p c && not (q c)) = one.same in
         let k = equal_true in
         omega arith
@@ -123,12 +139,16 @@ balanced_half n p q b x one two = go x
 
     go : (x : Bool) → IsBalanced n (λ c. p c && has_bit b x c) q
     go true = record {
-      same = count-cong n _ _ (λ c h. and-group (p c) (has_bit b true c) (q c) ∙ ap (λ y. p c && (has_bit b true c && y)) (of_test (q c))) ∙ equal_true
-          ∙ count-cong n _ _ (λ c h. sym (and-group (p c) (has_bit b true c) (not (q c)) ∙ ap (λ y. p c && (has_bit b true c && y)) (of_not (q c))));
+      same = count-cong n _ _ (λ c h. and-group (p c) (has_bit b true c) (q c) ∙ ap (λ y. p c && (has_bit b true c && y)) (of_test (q c)))
+          ∙ equal_true
+          ∙ count-cong n _ _ (λ c h. sym (and-group (p c) (has_bit b true c) (not (q c))
+          ∙ ap (λ y. p c && (has_bit b true c && y)) (of_not (q c))));
     }
     go false = record {
-      same = count-cong n _ _ (λ c h. and-group (p c) (has_bit b false c) (q c) ∙ ap (λ y. p c && (has_bit b false c && y)) (of_test (q c))) ∙ equal_false
-          ∙ count-cong n _ _ (λ c h. sym (and-group (p c) (has_bit b false c) (not (q c)) ∙ ap (λ y. p c && (has_bit b false c && y)) (of_not (q c))));
+      same = count-cong n _ _ (λ c h. and-group (p c) (has_bit b false c) (q c) ∙ ap (λ y. p c && (has_bit b false c && y)) (of_test (q c)))
+          ∙ equal_false
+          ∙ count-cong n _ _ (λ c h. sym (and-group (p c) (has_bit b false c) (not (q c))
+          ∙ ap (λ y. p c && (has_bit b false c && y)) (of_not (q c))));
     }
 
 and-true : (s : Bool) → s ≡ (s && true)
@@ -140,10 +160,14 @@ and-false true t = refl
 and-false false t = refl
 
 none_pass : (n : ℕ) (p q : Choice → Bool) → IsBalanced n (λ c. p c && false) q
-none_pass n p q = record { same = count_none n _ (λ c h. and-false (p c) (q c)) ∙ sym (count_none n _ (λ c h. and-false (p c) (not (q c)))) }
+none_pass n p q = record {
+  same = count_none n _ (λ c h. and-false (p c) (q c))
+      ∙ sym (count_none n _ (λ c h. and-false (p c) (not (q c))));
+}
 
 -- a balance with every subset of some bits is one where these bits are seen
-pub balanced_showing : (n : ℕ) (p q : Choice → Bool) (bits : List (Choice → Bool)) → ((subset : Subset) → IsBalanced n p (λ c. xor (chosen_parity subset (values_of bits c)) (q c)))
+pub balanced_showing : (n : ℕ) (p q : Choice → Bool) (bits : List (Choice → Bool))
+    → ((subset : Subset) → IsBalanced n p (λ c. xor (chosen_parity subset (values_of bits c)) (q c)))
     → (seen : List Bool) → IsBalanced n (λ c. p c && same_bits (values_of bits c) seen) q
 balanced_showing n p q [] each [] = balanced-cong n p (λ c. xor false (q c)) _ _ (λ c h. and-true (p c)) (λ c h. refl) (each [])
 balanced_showing n p q [] each (x ∷ seen) = none_pass n p q
@@ -152,11 +176,13 @@ balanced_showing n p q (b ∷ bits) each (x ∷ seen) =
     balanced-cong n _ _ _ _ (λ c h. and-group (p c) (not (xor (b c) x)) (same_bits (values_of bits c) seen)) (λ c h. refl)
     (balanced_showing n (λ c. p c && not (xor (b c) x)) q bits
     (λ subset. balanced_half n p (λ c. xor (chosen_parity subset (values_of bits c)) (q c)) b x (each (false ∷ subset))
-    (balanced-cong n _ _ _ _ (λ c h. refl) (λ c h. xor-assoc (b c) (chosen_parity subset (values_of bits c)) (q c)) (each (true ∷ subset)))) seen)
+    (balanced-cong n _ _ _ _ (λ c h. refl) (λ c h. xor-assoc (b c) (chosen_parity subset (values_of bits c)) (q c)) (each (true ∷ subset))))
+    seen)
 
 -- a balance of each subset that is not empty means equal counts, whatever the values are
 pub equal_counts : (n : ℕ) (p : Choice → Bool) (tests : List (Choice → Bool))
-    → ((subset : Subset) (place : ℕ) → place < length tests → get_or subset place false ≡ true → IsBalanced n p (λ c. chosen_parity subset (values_of tests c)))
+    → ((subset : Subset) (place : ℕ) → place < length tests → get_or subset place false ≡ true
+    → IsBalanced n p (λ c. chosen_parity subset (values_of tests c)))
     → (one other : List Bool) → length one ≡ length tests → length other ≡ length tests
     → count n (λ c. p c && same_bits (values_of tests c) one) ≡ count n (λ c. p c && same_bits (values_of tests c) other)
 equal_counts n p [] each [] [] e f = refl
@@ -176,7 +202,8 @@ equal_counts n p (t ∷ tests) each (x ∷ one) (y ∷ other) e f =
 
     showing : IsBalanced n (λ c. p c && same_bits (values_of tests c) one) t
     showing = balanced_showing n p t tests
-        (λ subset. balanced-cong n _ _ _ _ (λ c h. refl) (λ c h. xor-comm (t c) (chosen_parity subset (values_of tests c))) (each (true ∷ subset) 0 (omega arith) refl)) one
+        (λ subset. balanced-cong n _ _ _ _ (λ c h. refl) (λ c h. xor-comm (t c) (chosen_parity subset (values_of tests c)))
+        (each (true ∷ subset) 0 (omega arith) refl)) one
 
     turn_true : (s u v : Bool) → (s && (not (xor u true) && v)) ≡ ((s && v) && u)
     turn_true true true true = refl
@@ -192,7 +219,9 @@ equal_counts n p (t ∷ tests) each (x ∷ one) (y ∷ other) e f =
     turn_false true false false = refl
     turn_false false u v = refl
 
-    change : (x y : Bool) → count n (λ c. p c && (not (xor (t c) x) && same_bits (values_of tests c) one)) ≡ count n (λ c. p c && (not (xor (t c) y) && same_bits (values_of tests c) one))
+    change : (x y : Bool)
+        → count n (λ c. p c && (not (xor (t c) x) && same_bits (values_of tests c) one))
+        ≡ count n (λ c. p c && (not (xor (t c) y) && same_bits (values_of tests c) one))
     change true true = refl
     change false false = refl
     change true false = count-cong n _ _ (λ c h. turn_true (p c) (t c) (same_bits (values_of tests c) one)) ∙ showing.same
@@ -212,7 +241,8 @@ bit_is false false e = refl
 
 -- the same, of the choices that pass a test r
 determined_within : (n : ℕ) (p q r h : Choice → Bool) (bits : List (Choice → Bool))
-    → ((seen : List Bool) → length seen ≡ length bits → count n (λ c. (p c && r c) && same_bits (values_of bits c) seen) ≡ count n (λ c. (q c && r c) && same_bits (values_of bits c) seen))
+    → ((seen : List Bool) → length seen ≡ length bits
+    → count n (λ c. (p c && r c) && same_bits (values_of bits c) seen) ≡ count n (λ c. (q c && r c) && same_bits (values_of bits c) seen))
     → ((c d : Choice) → length c ≡ n → length d ≡ n → r c ≡ true → r d ≡ true → values_of bits c ≡ values_of bits d → h c ≡ h d)
     → count n (λ c. (p c && r c) && h c) ≡ count n (λ c. (q c && r c) && h c)
 determined_within n p q r h [] each determined = go (passing_or_none n r)
@@ -227,13 +257,15 @@ determined_within n p q r h [] each determined = go (passing_or_none n r)
     with_false true false h e = refl
     with_false false r h e = refl
 
-    go : IsPassing n r ⊎ ((c : Choice) → length c ≡ n → r c ≡ false) → count n (λ c. (p c && r c) && h c) ≡ count n (λ c. (q c && r c) && h c)
+    go : IsPassing n r ⊎ ((c : Choice) → length c ≡ n → r c ≡ false)
+        → count n (λ c. (p c && r c) && h c) ≡ count n (λ c. (q c && r c) && h c)
     go (inr none) = count_none n _ (λ c i. with_false (p c) (r c) (h c) (λ e. absurd (false≢true (sym (none c i) ∙ e))))
         ∙ sym (count_none n _ (λ c i. with_false (q c) (r c) (h c) (λ e. absurd (false≢true (sym (none c i) ∙ e)))))
     go (inl f) = value (h f.choice) refl
       where
         value : (x : Bool) → h f.choice ≡ x → count n (λ c. (p c && r c) && h c) ≡ count n (λ c. (q c && r c) && h c)
-        value true e = count-cong n _ _ (λ c i. with_true (p c) (r c) (h c) (λ k. determined c f.choice i f.as_long k f.passes refl ∙ e)) ∙ each [] refl
+        value true e = count-cong n _ _ (λ c i. with_true (p c) (r c) (h c) (λ k. determined c f.choice i f.as_long k f.passes refl ∙ e))
+            ∙ each [] refl
             ∙ sym (count-cong n _ _ (λ c i. with_true (q c) (r c) (h c) (λ k. determined c f.choice i f.as_long k f.passes refl ∙ e)))
         value false e = count_none n _ (λ c i. with_false (p c) (r c) (h c) (λ k. determined c f.choice i f.as_long k f.passes refl ∙ e))
             ∙ sym (count_none n _ (λ c i. with_false (q c) (r c) (h c) (λ k. determined c f.choice i f.as_long k f.passes refl ∙ e)))
@@ -250,19 +282,25 @@ determined_within n p q r h (b ∷ bits) each determined =
     regroup false r x y = refl
 
     each_half : (x : Bool) (seen : List Bool) → length seen ≡ length bits
-        → count n (λ c. (p c && (r c && not (xor (b c) x))) && same_bits (values_of bits c) seen) ≡ count n (λ c. (q c && (r c && not (xor (b c) x))) && same_bits (values_of bits c) seen)
-    each_half x seen e = count-cong n _ _ (λ c i. regroup (p c) (r c) (not (xor (b c) x)) (same_bits (values_of bits c) seen)) ∙ each (x ∷ seen) (ap suc e)
+        → count n (λ c. (p c && (r c && not (xor (b c) x))) && same_bits (values_of bits c) seen)
+        ≡ count n (λ c. (q c && (r c && not (xor (b c) x))) && same_bits (values_of bits c) seen)
+    each_half x seen e = count-cong n _ _ (λ c i. regroup (p c) (r c) (not (xor (b c) x)) (same_bits (values_of bits c) seen))
+        ∙ each (x ∷ seen) (ap suc e)
         ∙ sym (count-cong n _ _ (λ c i. regroup (q c) (r c) (not (xor (b c) x)) (same_bits (values_of bits c) seen)))
 
-    fixed : (x : Bool) (c d : Choice) → length c ≡ n → length d ≡ n → (r c && not (xor (b c) x)) ≡ true → (r d && not (xor (b d) x)) ≡ true → values_of bits c ≡ values_of bits d → h c ≡ h d
+    fixed : (x : Bool) (c d : Choice) → length c ≡ n → length d ≡ n → (r c && not (xor (b c) x)) ≡ true → (r d && not (xor (b d) x)) ≡ true
+        → values_of bits c ≡ values_of bits d → h c ≡ h d
     fixed x c d i j e f g =
         let u = parts_true (r c) (not (xor (b c) x)) e in
         let w = parts_true (r d) (not (xor (b d) x)) f in
         determined c d i j u.0 w.0 (ap (λ y. y ∷ values_of bits c) (bit_is (b c) x u.1 ∙ sym (bit_is (b d) x w.1)) ∙ ap (λ ys. b d ∷ ys) g)
 
-    half : (x : Bool) → count n (λ c. (p c && (r c && not (xor (b c) x))) && h c) ≡ count n (λ c. (q c && (r c && not (xor (b c) x))) && h c)
-        → count n (λ c. ((p c && r c) && h c) && cond x (b c) (not (b c))) ≡ count n (λ c. ((q c && r c) && h c) && cond x (b c) (not (b c)))
-    half x e = count-cong n _ _ (λ c i. sym (moved x (p c) (r c) (b c) (h c))) ∙ e ∙ count-cong n _ _ (λ c i. moved x (q c) (r c) (b c) (h c))
+    half : (x : Bool) → count n (λ c. (p c && (r c && not (xor (b c) x))) && h c)
+        ≡ count n (λ c. (q c && (r c && not (xor (b c) x))) && h c)
+        → count n (λ c. ((p c && r c) && h c) && cond x (b c) (not (b c)))
+        ≡ count n (λ c. ((q c && r c) && h c) && cond x (b c) (not (b c)))
+    half x e = count-cong n _ _ (λ c i. sym (moved x (p c) (r c) (b c) (h c))) ∙ e
+        ∙ count-cong n _ _ (λ c i. moved x (q c) (r c) (b c) (h c))
       where
         moved : (x p r b h : Bool) → ((p && (r && not (xor b x))) && h) ≡ (((p && r) && h) && cond x b (not b))
         moved x false r b h = refl
@@ -278,7 +316,8 @@ determined_within n p q r h (b ∷ bits) each determined =
 
 -- equal counts for every list of bits mean equal counts for a test that these bits determine
 pub equal_determined : (n : ℕ) (p q h : Choice → Bool) (bits : List (Choice → Bool))
-    → ((seen : List Bool) → length seen ≡ length bits → count n (λ c. p c && same_bits (values_of bits c) seen) ≡ count n (λ c. q c && same_bits (values_of bits c) seen))
+    → ((seen : List Bool) → length seen ≡ length bits
+    → count n (λ c. p c && same_bits (values_of bits c) seen) ≡ count n (λ c. q c && same_bits (values_of bits c) seen))
     → ((c d : Choice) → length c ≡ n → length d ≡ n → values_of bits c ≡ values_of bits d → h c ≡ h d)
     → count n (λ c. p c && h c) ≡ count n (λ c. q c && h c)
 equal_determined n p q h bits each determined =

@@ -19,7 +19,8 @@ signed_total f (s ∷ ss) (Zero ∷ ps) = signed_total (λ xs. f (false ∷ xs))
 signed_total f (s ∷ ss) (One ∷ ps) = signed_total (λ xs. f (true ∷ xs)) ss ps
 signed_total f (s ∷ ss) (Vary ∷ ps) = signed_total (λ xs. f (false ∷ xs)) ss ps +ℤ signed s (signed_total (λ xs. f (true ∷ xs)) ss ps)
 
-signed_total-add : (f g : List Bool → ℤ) (ss : Subset) (ps : List Part) → signed_total (λ xs. f xs +ℤ g xs) ss ps ≡ signed_total f ss ps +ℤ signed_total g ss ps
+signed_total-add : (f g : List Bool → ℤ) (ss : Subset) (ps : List Part)
+    → signed_total (λ xs. f xs +ℤ g xs) ss ps ≡ signed_total f ss ps +ℤ signed_total g ss ps
 signed_total-add f g ss [] = refl
 signed_total-add f g [] (p ∷ ps) = refl
 signed_total-add f g (s ∷ ss) (Zero ∷ ps) = signed_total-add (λ xs. f (false ∷ xs)) (λ xs. g (false ∷ xs)) ss ps
@@ -31,7 +32,8 @@ signed_total-add f g (s ∷ ss) (Vary ∷ ps) =
       signed-add s (signed_total (λ xs. f (true ∷ xs)) ss ps) (signed_total (λ xs. g (true ∷ xs)) ss ps),
     ) (omega (arith, ints))
 
-signed_total-neg : (f : List Bool → ℤ) (ss : Subset) (ps : List Part) → signed_total (λ xs. neg_ℤ (f xs)) ss ps ≡ neg_ℤ (signed_total f ss ps)
+signed_total-neg : (f : List Bool → ℤ) (ss : Subset) (ps : List Part)
+    → signed_total (λ xs. neg_ℤ (f xs)) ss ps ≡ neg_ℤ (signed_total f ss ps)
 signed_total-neg f ss [] = refl
 signed_total-neg f [] (p ∷ ps) = omega (arith, ints)
 signed_total-neg f (s ∷ ss) (Zero ∷ ps) = signed_total-neg (λ xs. f (false ∷ xs)) ss ps
@@ -65,19 +67,24 @@ signed_total-signs f (s ∷ ss) (One ∷ ps) h =
     ∙ sign_total-cong _ _ (λ x. rw (not_chosen s ss One ps h (λ e. cc)) refl) (allowed_inputs ps)
     ∙ sym (sign_total-map (λ xs. xor (f xs) (chosen_parity (s ∷ ss) xs)) (λ (xs : List Bool). true ∷ xs) (allowed_inputs ps))
 signed_total-signs f (s ∷ ss) (Vary ∷ ps) h =
-    ap (λ y. y +ℤ signed s (signed_total (λ xs. signed (f (true ∷ xs)) (pos 1)) ss ps)) (signed_total-signs (λ xs. f (false ∷ xs)) ss ps (subset_behind s ss Vary ps h))
-    ∙ ap (λ y. sign_total (λ xs. xor (f (false ∷ xs)) (chosen_parity ss xs)) (allowed_inputs ps) +ℤ signed s y) (signed_total-signs (λ xs. f (true ∷ xs)) ss ps (subset_behind s ss Vary ps h))
+    ap (λ y. y +ℤ signed s (signed_total (λ xs. signed (f (true ∷ xs)) (pos 1)) ss ps))
+    (signed_total-signs (λ xs. f (false ∷ xs)) ss ps (subset_behind s ss Vary ps h))
+    ∙ ap (λ y. sign_total (λ xs. xor (f (false ∷ xs)) (chosen_parity ss xs)) (allowed_inputs ps) +ℤ signed s y)
+    (signed_total-signs (λ xs. f (true ∷ xs)) ss ps (subset_behind s ss Vary ps h))
     ∙ rw (first, second) (sym (sign_total-halves (λ xs. xor (f xs) (chosen_parity (s ∷ ss) xs)) (allowed_inputs ps) (allowed_inputs ps)))
   where
-    first : sign_total (λ xs. xor (f (false ∷ xs)) (chosen_parity ss xs)) (allowed_inputs ps) ≡ sign_total (λ xs. xor (f (false ∷ xs)) (chosen_parity (s ∷ ss) (false ∷ xs))) (allowed_inputs ps)
+    first : sign_total (λ xs. xor (f (false ∷ xs)) (chosen_parity ss xs)) (allowed_inputs ps)
+        ≡ sign_total (λ xs. xor (f (false ∷ xs)) (chosen_parity (s ∷ ss) (false ∷ xs))) (allowed_inputs ps)
     first = sign_total-cong _ _ (λ x. rw (and-false s) refl) (allowed_inputs ps)
 
-    second : signed s (sign_total (λ xs. xor (f (true ∷ xs)) (chosen_parity ss xs)) (allowed_inputs ps)) ≡ sign_total (λ xs. xor (f (true ∷ xs)) (chosen_parity (s ∷ ss) (true ∷ xs))) (allowed_inputs ps)
+    second : signed s (sign_total (λ xs. xor (f (true ∷ xs)) (chosen_parity ss xs)) (allowed_inputs ps))
+        ≡ sign_total (λ xs. xor (f (true ∷ xs)) (chosen_parity (s ∷ ss) (true ∷ xs))) (allowed_inputs ps)
     second = sym (sign_total-signed s (λ xs. xor (f (true ∷ xs)) (chosen_parity ss xs)) (allowed_inputs ps))
         ∙ sign_total-cong _ _ (λ x. rw (and-true s) (xor-swap s (f (true ∷ x)) (chosen_parity ss x))) (allowed_inputs ps)
 
 -- a subset of the unknown inputs at which the signed sum is not 0, and where the operands' values stand for the function's
-pub record IsGateStep (f : List Bool → ℤ) (n : ℕ) (value : Choice → ℕ → Bool) (rest : Choice → Bool) (ps : List Part) (os : List ℕ) : Type 0 where
+pub record IsGateStep (f : List Bool → ℤ) (n : ℕ) (value : Choice → ℕ → Bool) (rest : Choice → Bool) (ps : List Part)
+    (os : List ℕ) : Type 0 where
   pub subset : Subset
   pub unknown : IsSubsetOf subset ps
   pub signed_sum : signed_total f subset ps ≢ pos 0
@@ -102,7 +109,8 @@ two_parts true false f0 f1 f a b = rw (a refl) (omega (arith, ints))
 two_parts false true f0 f1 f a b = rw (b refl) (omega (arith, ints))
 two_parts false false f0 f1 f a b = rw (a refl) (omega (arith, ints))
 
-known_step : (f : List Bool → ℤ) (n : ℕ) (value : Choice → ℕ → Bool) (rest : Choice → Bool) (p : Part) (ps : List Part) (o : ℕ) (os : List ℕ) (b : Bool)
+known_step : (f : List Bool → ℤ) (n : ℕ) (value : Choice → ℕ → Bool) (rest : Choice → Bool) (p : Part) (ps : List Part) (o : ℕ)
+    (os : List ℕ) (b : Bool)
     → p ≢ Vary → ((ss : Subset) → signed_total f (false ∷ ss) (p ∷ ps) ≡ signed_total (λ xs. f (b ∷ xs)) ss ps)
     → IsGateStep (λ xs. f (b ∷ xs)) n value rest ps os → IsGateStep f n value rest (p ∷ ps) (o ∷ os)
 known_step f n value rest p ps o os b known sum s = record {
@@ -136,7 +144,8 @@ vary_step f n value rest ps o os b new_rest is s = record {
         ∙ ap (λ y. signed_total (λ xs. f (false ∷ xs)) s.subset ps +ℤ y) (signed_total-neg (λ xs. f (true ∷ xs)) s.subset ps)
     split false = signed_total-add (λ xs. f (false ∷ xs)) (λ xs. f (true ∷ xs)) s.subset ps
 
-    moved : (c : Choice) → xor (chosen_parity s.subset (map (value c) os)) (new_rest c) ≡ xor (xor (b && value c o) (chosen_parity s.subset (map (value c) os))) (rest c)
+    moved : (c : Choice) → xor (chosen_parity s.subset (map (value c) os)) (new_rest c)
+        ≡ xor (xor (b && value c o) (chosen_parity s.subset (map (value c) os))) (rest c)
     moved c = rw (is c) (grouped (b && value c o) (chosen_parity s.subset (map (value c) os)) (rest c))
       where
         grouped : (x y z : Bool) → xor y (xor x z) ≡ xor (xor x y) z
@@ -145,7 +154,8 @@ vary_step f n value rest ps o os b new_rest is s = record {
         grouped true false z = refl
         grouped false y z = refl
 
-pub gate_step : (f : List Bool → ℤ) (n : ℕ) (value : Choice → ℕ → Bool) (rest : Choice → Bool) (ps : List Part) (os : List ℕ) → length os ≡ length ps
+pub gate_step : (f : List Bool → ℤ) (n : ℕ) (value : Choice → ℕ → Bool) (rest : Choice → Bool) (ps : List Part) (os : List ℕ)
+    → length os ≡ length ps
     → total n (λ c. signed (rest c) (f (input_values (value c) ps os))) ≢ pos 0 → IsGateStep f n value rest ps os
 gate_step f n value rest [] os h k = record {
   subset = [];
@@ -155,7 +165,8 @@ gate_step f n value rest [] os h k = record {
 }
 gate_step f n value rest (p ∷ ps) [] h k = absurd (omega arith)
 gate_step f n value rest (Zero ∷ ps) (o ∷ os) h k =
-    known_step f n value rest Zero ps o os false (λ e. cc) (λ ss. refl) (gate_step (λ xs. f (false ∷ xs)) n value rest ps os (omega arith) k)
+    known_step f n value rest Zero ps o os false (λ e. cc) (λ ss. refl)
+    (gate_step (λ xs. f (false ∷ xs)) n value rest ps os (omega arith) k)
 gate_step f n value rest (One ∷ ps) (o ∷ os) h k =
     known_step f n value rest One ps o os true (λ e. cc) (λ ss. refl) (gate_step (λ xs. f (true ∷ xs)) n value rest ps os (omega arith) k)
 gate_step f n value rest (Vary ∷ ps) (o ∷ os) h k =
@@ -171,15 +182,20 @@ gate_step f n value rest (Vary ∷ ps) (o ∷ os) h k =
     x : Choice → List Bool
     x c = input_values (value c) ps os
 
-    halves : total n (λ c. signed (rest c) (f (value c o ∷ input_values (value c) ps os))) +ℤ total n (λ c. signed (rest c) (f (value c o ∷ input_values (value c) ps os)))
-        ≡ total n (λ c. signed (rest c) (even (input_values (value c) ps os))) +ℤ total n (λ c. signed (xor (value c o) (rest c)) (odd (input_values (value c) ps os)))
+    halves : total n (λ c. signed (rest c) (f (value c o ∷ input_values (value c) ps os))) +ℤ total n
+        (λ c. signed (rest c) (f (value c o ∷ input_values (value c) ps os)))
+        ≡ total n (λ c. signed (rest c) (even (input_values (value c) ps os))) +ℤ total n
+        (λ c. signed (xor (value c o) (rest c)) (odd (input_values (value c) ps os)))
     halves = sym (total-add n (λ c. signed (rest c) (f (value c o ∷ x c))) (λ c. signed (rest c) (f (value c o ∷ x c))))
-        ∙ total-cong n _ _ (λ c i. two_parts (rest c) (value c o) (f (false ∷ x c)) (f (true ∷ x c)) (f (value c o ∷ x c)) (λ e. rw e refl) (λ e. rw e refl))
+        ∙ total-cong n _ _ (λ c i. two_parts (rest c) (value c o) (f (false ∷ x c)) (f (true ∷ x c)) (f (value c o ∷ x c)) (λ e. rw e refl)
+        (λ e. rw e refl))
         ∙ total-add n (λ c. signed (rest c) (even (x c))) (λ c. signed (xor (value c o) (rest c)) (odd (x c)))
 
-    go : (total n (λ c. signed (rest c) (even (input_values (value c) ps os))) ≢ pos 0) ⊎ (total n (λ c. signed (xor (value c o) (rest c)) (odd (input_values (value c) ps os))) ≢ pos 0)
+    go : (total n (λ c. signed (rest c) (even (input_values (value c) ps os))) ≢ pos 0)
+        ⊎ (total n (λ c. signed (xor (value c o) (rest c)) (odd (input_values (value c) ps os))) ≢ pos 0)
         → (total n (λ c. signed (rest c) (even (input_values (value c) ps os))) ≢ pos 0 → IsGateStep even n value rest ps os)
-        → (total n (λ c. signed (xor (value c o) (rest c)) (odd (input_values (value c) ps os))) ≢ pos 0 → IsGateStep odd n value (λ c. xor (value c o) (rest c)) ps os)
+        → (total n (λ c. signed (xor (value c o) (rest c)) (odd (input_values (value c) ps os))) ≢ pos 0
+        → IsGateStep odd n value (λ c. xor (value c o) (rest c)) ps os)
         → IsGateStep f n value rest (Vary ∷ ps) (o ∷ os)
     go (inl e) one other = vary_step f n value rest ps o os false rest (λ c. refl) (one e)
     go (inr e) one other = vary_step f n value rest ps o os true (λ c. xor (value c o) (rest c)) (λ c. refl) (other e)

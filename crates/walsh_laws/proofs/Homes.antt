@@ -29,11 +29,13 @@ start_home root table t (Public b) = record { home = λ s c e. absurd cc }
 start_home root table t (Label l) = record { home = λ s c e. absurd cc }
 start_home root table t (Fresh j) = record { home = λ s c e. absurd cc }
 
-roots_home : (flat : Flat) (setup : Setup) (cycles : ℕ) (rank : ℕ → ℕ) (row : ℕ → Row) (word : ℕ → ℕ → Row) → IsChecked flat setup cycles rank row word
+roots_home : (flat : Flat) (setup : Setup) (cycles : ℕ) (rank : ℕ → ℕ) (row : ℕ → Row) (word : ℕ → ℕ → Row)
+    → IsChecked flat setup cycles rank row word
     → (root : ℕ → ℕ → Root) (rooted : ℕ → ℕ → ℕ → Root) → IsRooted flat setup cycles row root rooted
     → (t : ℕ) → t < cycles → IsLinked flat (root t) (root t) (rooted t) (rooted t) (λ r s. IsHome root r) (λ r s. IsHome root r)
 roots_home flat setup cycles rank row word checked root rooted is_rooted =
-    carried-linked roots roots IsAnyStart flat setup cycles (λ t. ones (row t)) (λ t. ones (row t)) root root rooted rooted (λ t r s. IsHome root r) (λ t r s. IsHome root r)
+    carried-linked roots roots IsAnyStart flat setup cycles (λ t. ones (row t)) (λ t. ones (row t)) root root rooted rooted
+    (λ t r s. IsHome root r) (λ t r s. IsHome root r)
     checked.bound (any_starts flat setup)
     (record {
       constants = λ t b. record { home = λ s c e. absurd cc };
@@ -45,7 +47,8 @@ roots_home flat setup cycles rank row word checked root rooted is_rooted =
     })
     is_rooted.carried is_rooted.carried
   where
-    cell : (t : ℕ) → t < cycles → ((r : ℕ) → r < t → (b : ℕ) → IsHome root (root r b)) → (c : FlatCell) → Contains flat.cells c → IsHome root (root t c.output)
+    cell : (t : ℕ) → t < cycles → ((r : ℕ) → r < t → (b : ℕ) → IsHome root (root r b)) → (c : FlatCell) → Contains flat.cells c
+        → IsHome root (root t c.output)
     cell t below lower c listed = go (vary_or_not (row t c.output)) (kept_or_not row root t c)
       where
         has : HasCellRoot row root t c
@@ -56,12 +59,17 @@ roots_home flat setup cycles rank row word checked root rooted is_rooted =
             let f : t ≡ s = cc in let g : c.output ≡ d = cc in
             subst (λ x. root x d ≡ output x d) f (subst (λ x. root t x ≡ output t x) g own)
 
-        go : (row t c.output ≡ Vary) ⊎ (row t c.output ≢ Vary) → IsKept row root t c ⊎ (IsKept row root t c → ⊥) → IsHome root (root t c.output)
+        go : (row t c.output ≡ Vary) ⊎ (row t c.output ≢ Vary) → IsKept row root t c ⊎ (IsKept row root t c → ⊥)
+            → IsHome root (root t c.output)
         go (inr known) kept = record { home = λ s d e. absurd (let f = has.known known in cc) }
-        go (inl varies) (inl kept) = record { home = λ s d e. (lower (before t) (before_earlier row root t c kept) c.output).home s d (sym (has.kept varies kept) ∙ e) }
+        go (inl varies) (inl kept) = record {
+          home = λ s d e. (lower (before t) (before_earlier row root t c kept) c.output).home s d
+              (sym (has.kept varies kept) ∙ e);
+        }
         go (inl varies) (inr own) = record { home = own_home (has.own varies own) }
 
-pub root_home : (flat : Flat) (setup : Setup) (cycles : ℕ) (rank : ℕ → ℕ) (row : ℕ → Row) (word : ℕ → ℕ → Row) → IsChecked flat setup cycles rank row word
+pub root_home : (flat : Flat) (setup : Setup) (cycles : ℕ) (rank : ℕ → ℕ) (row : ℕ → Row) (word : ℕ → ℕ → Row)
+    → IsChecked flat setup cycles rank row word
     → (root : ℕ → ℕ → Root) (rooted : ℕ → ℕ → ℕ → Root) → IsRooted flat setup cycles row root rooted
     → (t : ℕ) → t < cycles → (b s c : ℕ) → root t b ≡ output s c → root s c ≡ output s c
 root_home flat setup cycles rank row word checked root rooted is_rooted t below b =

@@ -9,3 +9,14 @@ pub mod WholeSets
 pub mod Counting
 pub mod Numbering
 pub mod Homes
+pub mod RunNodes
+pub mod Listing
+pub mod Observed
+pub mod Ready
+pub mod RunCorrelation
+pub mod RunCounting
+pub mod NoFinding
+pub mod InTime
+pub mod Sorting
+pub mod NodeNumbers
+pub mod Writing

@@ -41,17 +41,20 @@ total_none (suc n) f e =
     omega (arith, ints)
 
 -- signs that add up to 0 do so with one factor
-pub total_factor-pos : (n : ℕ) (g : Choice → Bool) → total n (λ c. signed (g c) (pos 1)) ≡ pos 0 → (k : ℕ) → total n (λ c. signed (g c) (pos k)) ≡ pos 0
+pub total_factor-pos : (n : ℕ) (g : Choice → Bool) → total n (λ c. signed (g c) (pos 1)) ≡ pos 0 → (k : ℕ)
+    → total n (λ c. signed (g c) (pos k)) ≡ pos 0
 total_factor-pos n g e zero = total_none n (λ c. signed (g c) (pos 0)) (λ c h. signed-zero (g c))
 total_factor-pos n g e (suc k) =
     let rest = total_factor-pos n g e k in
-    total-cong n (λ c. signed (g c) (pos (suc k))) (λ c. signed (g c) (pos k) +ℤ signed (g c) (pos 1)) (λ c h. ap (signed (g c)) (one_more k) ∙ signed-add (g c) (pos k) (pos 1))
+    total-cong n (λ c. signed (g c) (pos (suc k))) (λ c. signed (g c) (pos k) +ℤ signed (g c) (pos 1))
+    (λ c h. ap (signed (g c)) (one_more k) ∙ signed-add (g c) (pos k) (pos 1))
     ∙ total-add n (λ c. signed (g c) (pos k)) (λ c. signed (g c) (pos 1)) ∙ rw (rest, e) (omega (arith, ints))
   where
     one_more : (k : ℕ) → pos (suc k) ≡ pos k +ℤ pos 1
     one_more k = omega (arith, ints)
 
-pub total_factor : (n : ℕ) (g : Choice → Bool) → total n (λ c. signed (g c) (pos 1)) ≡ pos 0 → (x : ℤ) → total n (λ c. signed (g c) x) ≡ pos 0
+pub total_factor : (n : ℕ) (g : Choice → Bool) → total n (λ c. signed (g c) (pos 1)) ≡ pos 0 → (x : ℤ)
+    → total n (λ c. signed (g c) x) ≡ pos 0
 total_factor n g e (pos k) = total_factor-pos n g e k
 total_factor n g e (negsuc k) =
     let rest = total_factor-pos n g e (suc k) in
@@ -66,7 +69,8 @@ sign_total-append : (f : Choice → Bool) (xs ys : List Choice) → sign_total f
 sign_total-append f [] ys = omega (arith, ints)
 sign_total-append f (x ∷ xs) ys = rw (sign_total-append f xs ys) (omega (arith, ints))
 
-pub sign_total-map : (f : List Bool → Bool) (g : List Bool → List Bool) (xs : List (List Bool)) → sign_total f (map g xs) ≡ sign_total (λ x. f (g x)) xs
+pub sign_total-map : (f : List Bool → Bool) (g : List Bool → List Bool) (xs : List (List Bool))
+    → sign_total f (map g xs) ≡ sign_total (λ x. f (g x)) xs
 sign_total-map f g [] = refl
 sign_total-map f g (x ∷ xs) = rw (sign_total-map f g xs) refl
 
@@ -74,13 +78,20 @@ pub sign_total-cong : (f g : List Bool → Bool) → ((x : List Bool) → f x �
 sign_total-cong f g e [] = refl
 sign_total-cong f g e (x ∷ xs) = rw (e x, sign_total-cong f g e xs) refl
 
-pub sign_total-signed : (b : Bool) (f : List Bool → Bool) (xs : List (List Bool)) → sign_total (λ x. xor b (f x)) xs ≡ signed b (sign_total f xs)
+pub sign_total-signed : (b : Bool) (f : List Bool → Bool) (xs : List (List Bool))
+    → sign_total (λ x. xor b (f x)) xs ≡ signed b (sign_total f xs)
 sign_total-signed true f [] = refl
 sign_total-signed false f [] = refl
-sign_total-signed b f (x ∷ xs) = rw (sign_total-signed b f xs, signed-xor b (f x) (pos 1), signed-add b (signed (f x) (pos 1)) (sign_total f xs)) refl
+sign_total-signed b f (x ∷ xs) = rw (
+  sign_total-signed b f xs,
+  signed-xor b (f x) (pos 1),
+  signed-add b (signed (f x) (pos 1))
+      (sign_total f xs),
+) refl
 
 pub sign_total-halves : (f : List Bool → Bool) (xs ys : List (List Bool))
-    → sign_total f (map (λ (c : List Bool). false ∷ c) xs ++ map (λ (c : List Bool). true ∷ c) ys) ≡ sign_total (λ c. f (false ∷ c)) xs +ℤ sign_total (λ c. f (true ∷ c)) ys
+    → sign_total f (map (λ (c : List Bool). false ∷ c) xs ++ map (λ (c : List Bool). true ∷ c) ys)
+    ≡ sign_total (λ c. f (false ∷ c)) xs +ℤ sign_total (λ c. f (true ∷ c)) ys
 sign_total-halves f xs ys =
     sign_total-append f (map (λ (c : List Bool). false ∷ c) xs) (map (λ (c : List Bool). true ∷ c) ys)
     ∙ rw (sign_total-map f (λ (c : List Bool). false ∷ c) xs, sign_total-map f (λ (c : List Bool). true ∷ c) ys) refl

@@ -12,7 +12,8 @@ use Rattle.walsh_laws.specs.NodeValues.{AreNodeValues}
 
 -- whether a set of nodes and a set of labels have together an odd number of ones under a choice
 abbrev pub is_odd : ℕ → (ℕ → Bool) → ℕ → Labels → (Choice → ℕ → Bool) → Choice → Bool
-is_odd n members label_number labels value choice = xor (parity_below n members (value choice)) (parity_below label_number labels (label_bit choice))
+is_odd n members label_number labels value choice = xor (parity_below n members (value choice))
+    (parity_below label_number labels (label_bit choice))
 
 -- a selection of sets for nodes by which a set of labels is the symmetric difference of the sets of some nodes
 pub record IsSelected (n : ℕ) (nodes : ℕ → Node) (members : ℕ → Bool) (labels : Labels) : Type 0 where
@@ -41,7 +42,8 @@ pub record IsUncorrelated (table : LabelTable) (cycles n : ℕ) (nodes : ℕ →
 
 -- how many choices with these secrets give these values to nodes
 abbrev pub count_with_values : LabelTable → ℕ → (Choice → ℕ → Bool) → List ℕ → List Bool → List Bool → ℕ
-count_with_values table cycles value shown secrets seen = length (filter (λ (c : Choice). same_bits (map (value c) shown) seen) (choices_with table cycles secrets))
+count_with_values table cycles value shown secrets seen = length
+    (filter (λ (c : Choice). same_bits (map (value c) shown) seen) (choices_with table cycles secrets))
 
 -- counting: where no set of shown nodes correlates with secret bits, equally many choices give the nodes any values, whatever the secrets are
 unfoldable pub CountingLaw : Type 0

@@ -1,3 +1,5 @@
 pub mod Sums
 pub mod NodeValues
 pub mod Laws
+pub mod Security
+pub mod Written

@@ -3,6 +3,10 @@
 #![tactic(auto)]
 
 ghost use Rattle.walsh_laws.specs.Laws.{CorrelationLaw, CountingLaw};
+ghost use Rattle.walsh_laws.specs.Security.{RunCorrelationLaw, RunCountingLaw, NoFindingLaw, InTimeLaw};
+ghost use Rattle.walsh_laws.specs.Written.{WritingLaw, ReadingLaw};
+
+pub use model_laws::{calm_law, waveform_law};
 
 /// Where nodes correlate with labels, some selection has these labels as the symmetric difference of the nodes' sets.
 pub fn correlation_law()
@@ -13,4 +17,36 @@ pub fn correlation_law()
 /// secrets are.
 pub fn counting_law()
     ensures { CountingLaw }
+{}
+
+/// Where pairs of bit and cycle of a run correlate with labels, some selection has these labels as the pairs' set.
+pub fn run_correlation_law()
+    ensures { RunCorrelationLaw }
+{}
+
+/// Where what probes show correlates with no secret bits, equally many choices show any observation, whatever the secrets
+/// are.
+pub fn run_counting_law()
+    ensures { RunCountingLaw }
+{}
+
+/// Where no finding of an order exists, the run is secure of this order.
+pub fn no_finding_law()
+    ensures { NoFindingLaw }
+{}
+
+/// A run that is secure of an order is so under every order of gate events.
+pub fn in_time_law()
+    ensures { InTimeLaw }
+{}
+
+/// Where a finding of an order exists, a written one does: with probes and pairs in ascending order, and a number for each
+/// node that is 0 where the node is no gate.
+pub fn writing_law()
+    ensures { WritingLaw }
+{}
+
+/// A written finding is a finding.
+pub fn reading_law()
+    ensures { ReadingLaw }
 {}

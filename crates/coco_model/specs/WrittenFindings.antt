@@ -1,0 +1,63 @@
+-- Findings as values: lists in order, and a number for each node of an unrolled run.
+use Rattle.std.specs.Prelude.{◌≡◌, ◌≢◌, ℕ, ◌<◌, ◌≤◌, Bool, true, List, [], ◌∷◌, map, length, get_or, Contains, ◌⊎◌}
+use Rattle.coco_base.specs.declared.netlist.Flat.{Flat}
+use Rattle.coco_base.specs.declared.cell.Kind.{Kind}
+use Rattle.coco_base.specs.declared.cell.Part.{Part}
+use Rattle.coco_base.specs.declared.setup.Setup.{Setup}
+use Rattle.coco_base.specs.declared.finding.Probe.{Probe}
+use Rattle.coco_base.specs.declared.unrolled.Node.{Node}
+use Rattle.coco_base.specs.declared.unrolled.Node.TheVariants.{Nothing, Gate}
+use Rattle.coco_model.specs.Labels.{parity}
+use Rattle.coco_model.specs.Known.{Row}
+use Rattle.coco_model.specs.Reach.{Reach}
+use Rattle.coco_model.specs.Secure.{IsProbe}
+use Rattle.coco_model.specs.Findings.{Labels, IsWhole, IsSeen}
+use Rattle.coco_model.specs.Nodes.{IsNodeSelection}
+
+-- by cycle and then by bit
+abbrev pub ComesBefore : Probe → Probe → Type 0
+ComesBefore p q = (p.cycle < q.cycle) ⊎ ((p.cycle ≡ q.cycle) × (p.bit < q.bit))
+
+-- each comes before all that follow, so none stands twice
+abbrev pub AreAscending : List Probe → Type 0
+AreAscending [] = Unit {0}
+AreAscending (p ∷ ps) = ((q : Probe) → Contains ps q → ComesBefore p q) × AreAscending ps
+
+-- the symmetric difference of the sets of the nodes of pairs
+abbrev pub set_of_nodes : (ℕ → ℕ → ℕ) → (ℕ → Labels) → List Probe → Labels
+set_of_nodes index sets pairs l = parity (map (λ (u : Probe). sets (index u.cycle u.bit) l) pairs)
+
+-- a try of order d: at least one and at most d probes and the unknown pairs that they show, both in ascending order, and numbers that
+-- choose a set for each node, where index gives the numbers of nodes
+pub record IsTry (flat : Flat) (setup : Setup) (cycles d : ℕ) (index : ℕ → ℕ → ℕ) (row : ℕ → Row) (reach : Reach) (nodes : List Node) (probes pairs : List Probe) (numbers : List ℕ) (sets : ℕ → Labels) : Type 0 where
+  pub some : 0 < length probes
+  pub most : length probes ≤ d
+  pub each : (p : Probe) → Contains probes p → IsProbe flat setup cycles p
+  pub ascending : AreAscending probes
+  pub in_order : AreAscending pairs
+  pub seen : (u : Probe) → Contains pairs u → IsSeen row reach probes u
+  pub selection : IsNodeSelection nodes numbers sets
+
+-- a set of labels shows a leak: it is not empty and whole
+pub record IsLeakingSet (setup : Setup) (labels : Labels) : Type 0 where
+  pub member : ℕ
+  pub not_empty : labels member ≡ true
+  pub whole : IsWhole setup.table labels
+
+-- a written finding: a try whose set shows a leak
+pub record IsWrittenFinding (flat : Flat) (setup : Setup) (cycles d : ℕ) (index : ℕ → ℕ → ℕ) (row : ℕ → Row) (reach : Reach) (nodes : List Node) (probes pairs : List Probe) (numbers : List ℕ) (sets : ℕ → Labels) : Type 0 where
+  pub is_try : IsTry flat setup cycles d index row reach nodes probes pairs numbers sets
+  pub leaks : IsLeakingSet setup (set_of_nodes index sets pairs)
+
+-- the numbers are 0 at each node that is no gate
+pub record AreZeroElsewhere (nodes : List Node) (numbers : List ℕ) : Type 0 where
+  pub zero : (i : ℕ) → i < length nodes → ((kind : Kind) (parts : List Part) (operands : List ℕ) → get_or nodes i Nothing ≢ Gate kind parts operands) → get_or numbers i 0 ≡ 0
+
+-- a written finding exists, with 0 at each node that is no gate
+pub record HasWrittenFinding (flat : Flat) (setup : Setup) (cycles d : ℕ) (index : ℕ → ℕ → ℕ) (row : ℕ → Row) (reach : Reach) (nodes : List Node) : Type 0 where
+  pub probes : List Probe
+  pub pairs : List Probe
+  pub numbers : List ℕ
+  pub sets : ℕ → Labels
+  pub finding : IsWrittenFinding flat setup cycles d index row reach nodes probes pairs numbers sets
+  pub elsewhere : AreZeroElsewhere nodes numbers
