@@ -4,6 +4,9 @@
 mod fault;
 mod image;
 mod lines;
+mod numbers;
+mod reading;
+mod tokens;
 mod words;
 
 pub use fault::AsmFault;
