@@ -14,3 +14,6 @@ mod words;
 mod writing;
 
 pub use run::check_run;
+
+#[cfg(test)]
+mod tests;

@@ -6,3 +6,6 @@ pub mod Takings
 pub mod Lines
 pub mod Refutations
 pub mod Printing
+pub mod Numbers
+pub mod Reading
+pub mod Again

@@ -2,3 +2,4 @@ pub mod Marked
 pub mod Verdicts
 pub mod Laws
 pub mod Texts
+pub mod Faults

@@ -1,0 +1,4 @@
+pub mod SpreadLemmas
+pub mod GateLemmas
+pub mod LeafLemmas
+pub mod ConeLemmas

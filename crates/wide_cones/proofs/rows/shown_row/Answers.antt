@@ -1,0 +1,12 @@
+use Rattle.std.proofs.Common.{rules, ◌≡◌, sym, ◌∙◌, ap, subst, map}
+use Rattle.wide_cones.specs.Rows.{IsSettledRow}
+use Rattle.wide_cones.proofs.ConeLemmas.{on_ok, probe_row, shown_test}
+use Rattle.wide_cones.proofs.rows.shown_row.Goals as goal
+
+pub returns : goal.returns
+returns c =
+    let v = c.as_slice.ensures.value ∙ c.in_ok-values.ensures in
+    on_ok c.settled_row.result _ _
+    (λ row s. let t = subst (λ values. IsSettledRow c.args.flat.now values row.items) v s in
+    λ l u old now. probe_row c.args.flat.now c.args.setup.now c.requires.ready l u c.args.before.now c.args.now.now t.leaves row.items old now t.leaf t.spread)
+    c.settled_row.ensures

@@ -1,0 +1,8 @@
+//! Structural cones of a run whose leaves are flops, label by label, and the first probe whose cone holds all shares of
+//! a secret bit.
+#![tactic(auto)]
+
+mod gates;
+mod leaves;
+mod rows;
+mod spreading;
