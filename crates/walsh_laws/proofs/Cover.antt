@@ -21,7 +21,7 @@ use Rattle.walsh_laws.proofs.RootCones.{root_cone}
 use Rattle.walsh_laws.proofs.OneFinding.{one_finding}
 
 -- where an exclusive or is 1, one of its values is
-odd_member : {X : Type 0} (f : X → Bool) (xs : List X) → parity (map f xs) ≡ true → (x : X) × Contains xs x × (f x ≡ true)
+pub odd_member : {X : Type 0} (f : X → Bool) (xs : List X) → parity (map f xs) ≡ true → (x : X) × Contains xs x × (f x ≡ true)
 odd_member f [] e = absurd (false≢true e)
 odd_member f (x ∷ xs) e = go (cases_Bool (f x)) (odd_member f xs)
   where

@@ -21,6 +21,7 @@ pub mod GateLives
 pub mod RootCones
 pub mod OneFinding
 pub mod Cover
+pub mod OneShare
 pub mod Sorting
 pub mod NodeNumbers
 pub mod Writing

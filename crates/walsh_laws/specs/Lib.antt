@@ -4,3 +4,4 @@ pub mod Laws
 pub mod Security
 pub mod Written
 pub mod Covered
+pub mod Examples

@@ -7,6 +7,8 @@ ghost use Rattle.walsh_laws.specs.Security.{RunCorrelationLaw, RunCountingLaw, N
 ghost use Rattle.walsh_laws.specs.Covered.{OneFindingLaw, SelectionConeLaw, CoverLaw};
 ghost use Rattle.walsh_laws.specs.Written.{WritingLaw, ReadingLaw};
 
+pub mod examples;
+
 pub use model_laws::{calm_law, waveform_law};
 
 /// Where nodes correlate with labels, some selection has these labels as the symmetric difference of the nodes' sets.
