@@ -28,8 +28,9 @@ abbrev pub set_of_nodes : (ℕ → ℕ → ℕ) → (ℕ → Labels) → List Pr
 set_of_nodes index sets pairs l = parity (map (λ (u : Probe). sets (index u.cycle u.bit) l) pairs)
 
 -- a try of order d: at least one and at most d probes and the unknown pairs that they show, both in ascending order, and numbers that
--- choose a set for each node, where index gives the numbers of nodes
-pub record IsTry (flat : Flat) (setup : Setup) (cycles d : ℕ) (index : ℕ → ℕ → ℕ) (row : ℕ → Row) (reach : Reach) (nodes : List Node) (probes pairs : List Probe) (numbers : List ℕ) (sets : ℕ → Labels) : Type 0 where
+-- choose a set for each node
+pub record IsTry (flat : Flat) (setup : Setup) (cycles d : ℕ) (row : ℕ → Row) (reach : Reach) (nodes : List Node)
+    (probes pairs : List Probe) (numbers : List ℕ) (sets : ℕ → Labels) : Type 0 where
   pub some : 0 < length probes
   pub most : length probes ≤ d
   pub each : (p : Probe) → Contains probes p → IsProbe flat setup cycles p
@@ -44,17 +45,20 @@ pub record IsLeakingSet (setup : Setup) (labels : Labels) : Type 0 where
   pub not_empty : labels member ≡ true
   pub whole : IsWhole setup.table labels
 
--- a written finding: a try whose set shows a leak
-pub record IsWrittenFinding (flat : Flat) (setup : Setup) (cycles d : ℕ) (index : ℕ → ℕ → ℕ) (row : ℕ → Row) (reach : Reach) (nodes : List Node) (probes pairs : List Probe) (numbers : List ℕ) (sets : ℕ → Labels) : Type 0 where
-  pub is_try : IsTry flat setup cycles d index row reach nodes probes pairs numbers sets
+-- a written finding: a try whose set shows a leak, where index gives the numbers of nodes
+pub record IsWrittenFinding (flat : Flat) (setup : Setup) (cycles d : ℕ) (index : ℕ → ℕ → ℕ) (row : ℕ → Row) (reach : Reach)
+    (nodes : List Node) (probes pairs : List Probe) (numbers : List ℕ) (sets : ℕ → Labels) : Type 0 where
+  pub is_try : IsTry flat setup cycles d row reach nodes probes pairs numbers sets
   pub leaks : IsLeakingSet setup (set_of_nodes index sets pairs)
 
 -- the numbers are 0 at each node that is no gate
 pub record AreZeroElsewhere (nodes : List Node) (numbers : List ℕ) : Type 0 where
-  pub zero : (i : ℕ) → i < length nodes → ((kind : Kind) (parts : List Part) (operands : List ℕ) → get_or nodes i Nothing ≢ Gate kind parts operands) → get_or numbers i 0 ≡ 0
+  pub zero : (i : ℕ) → i < length nodes
+      → ((kind : Kind) (parts : List Part) (operands : List ℕ) → get_or nodes i Nothing ≢ Gate kind parts operands) → get_or numbers i 0 ≡ 0
 
 -- a written finding exists, with 0 at each node that is no gate
-pub record HasWrittenFinding (flat : Flat) (setup : Setup) (cycles d : ℕ) (index : ℕ → ℕ → ℕ) (row : ℕ → Row) (reach : Reach) (nodes : List Node) : Type 0 where
+pub record HasWrittenFinding (flat : Flat) (setup : Setup) (cycles d : ℕ) (index : ℕ → ℕ → ℕ) (row : ℕ → Row) (reach : Reach)
+    (nodes : List Node) : Type 0 where
   pub probes : List Probe
   pub pairs : List Probe
   pub numbers : List ℕ
