@@ -2,7 +2,9 @@
 //! a secret bit.
 #![tactic(auto)]
 
+mod cycle;
 mod gates;
 mod leaves;
 mod rows;
+mod secrets;
 mod spreading;
