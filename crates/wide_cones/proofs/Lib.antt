@@ -4,3 +4,4 @@ pub mod LeafLemmas
 pub mod ConeLemmas
 pub mod SecretLemmas
 pub mod CycleLemmas
+pub mod LeakLemmas
