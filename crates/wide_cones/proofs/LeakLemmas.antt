@@ -1,6 +1,6 @@
 -- From what probes show of the labels to probes that hold or hide secret bits.
-use Rattle.std.proofs.Common.{◌≡◌, ◌≢◌, ℕ, zero, suc, ◌+◌, ◌<◌, ◌≤◌, ◌⊎◌, inl, inr, Bool, true, false, ◌&&◌, List, [], ◌∷◌, ◌++◌, length, get_or, refl, sym, ◌∙◌, ap, subst, arith}
-use Rattle.std.specs.Prelude.{Contains, slice_get, Option, Some, flat_map, ◌^◌}
+use Rattle.std.proofs.Common.{◌≡◌, ℕ, suc, ◌+◌, ◌<◌, ◌⊎◌, inl, inr, Bool, true, false, List, [], ◌∷◌, get_or, sym, ◌∙◌, ap, subst, arith}
+use Rattle.std.specs.Prelude.{Contains, Option, flat_map, ◌^◌}
 use Rattle.std.specs.List.{list_all}
 use Rattle.std.proofs.lemmas.Bool.{and_parts, and_cases, cases_order, true≢false, false≢true}
 use Rattle.std.proofs.lemmas.List.Elements.{Contains-append_left}
@@ -13,13 +13,11 @@ use Rattle.coco_model.specs.Run.{before}
 use Rattle.coco_model.specs.Secure.{IsProbe}
 use Rattle.coco_model.proofs.Basics.{Contains-here, Contains-later, Contains-cases, Contains-none}
 use Rattle.model_laws.proofs.Lists.{Contains-flat_map, place_of_member, member_of_place}
-use Rattle.wide_laws.specs.WideCones.{IsInWideProbeCone, LacksLabel, HidesSecrets, HoldsSecret}
-use Rattle.wide_cones.specs.Rows.{held}
+use Rattle.wide_laws.specs.WideCones.{IsInWideProbeCone, LacksLabel, HidesSecrets}
 use Rattle.wide_cones.specs.Ready.{IsReady}
 use Rattle.wide_cones.specs.Cycles.{AreConeRows, AreProbeRows}
 use Rattle.wide_cones.specs.Secrets.{AreSmall}
-use Rattle.wide_cones.specs.Leaks.{is_seen, whole, NoneWhole, IsFirstWhole, IsFirstBit, NoBitTo, IsEarlier, IsFirstLeak}
-use Rattle.wide_cones.specs.declared.leak.Leak.{Leak}
+use Rattle.wide_cones.specs.Leaks.{is_seen, whole, NoneWhole, IsFirstBit, NoBitTo, IsFirstLeak}
 use Rattle.wide_cones.proofs.GateLemmas.{some_at, place_below}
 
 -- the labels of secret bits are declared

@@ -1,5 +1,5 @@
 -- The rows of all labels in a cycle.
-use Rattle.std.specs.Prelude.{◌≡◌, ℕ, ◌<◌, Bool, List, length, slice_get, Some}
+use Rattle.std.specs.Prelude.{◌≡◌, ℕ, Bool, List, length, slice_get, Some}
 use Rattle.coco_base.specs.declared.netlist.Flat.{Flat}
 use Rattle.coco_base.specs.declared.setup.Setup.{Setup}
 use Rattle.wide_cones.specs.Rows.{IsConeRow, IsProbeRow}

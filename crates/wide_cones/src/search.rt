@@ -15,11 +15,7 @@ fn is_seen(shown: &[List<bool>], label: u32, bit: u32) -> bool
     ensures { result ≡ is_seen shown.now bit label }
 {
     match shown.get(label as usize) {
-        Some(row) => row
-            .as_slice()
-            .get(bit as usize)
-            .copied()
-            .unwrap_or(false),
+        Some(row) => row.as_slice().get(bit as usize).copied().unwrap_or(false),
         None => false,
     }
 }

@@ -18,11 +18,7 @@ pub fn share_sets(alloc: Global, secrets: &[SecretPlan]) -> Result<List<List<u32
     Ok(sets)
 }
 
-fn add_bits(
-    alloc: Global,
-    sets: &mut List<List<u32>>,
-    secret: &SecretPlan,
-) -> Result<(), NoMemory>
+fn add_bits(alloc: Global, sets: &mut List<List<u32>>, secret: &SecretPlan) -> Result<(), NoMemory>
     requires { AreSmall (map (share_labels secret.now) (range_with_len 0 secret.now.width)) }
     ensures { OnOk result (sets.new ≡ sets.old ++ map (share_labels secret.now) (range_with_len 0 secret.now.width)) }
 {

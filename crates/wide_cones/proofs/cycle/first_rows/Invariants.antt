@@ -1,4 +1,3 @@
-use Rattle.std.proofs.Common.{◌≡◌, ◌<◌, length, ℕ, List, Bool}
 use Rattle.wide_cones.specs.Rows.{IsConeRow}
 use Rattle.wide_cones.proofs.CycleLemmas.{AreListed}
 use Rattle.wide_cones.proofs.cycle.first_rows.Given as goal

@@ -1,4 +1,4 @@
-use Rattle.std.proofs.Common.{◌≡◌, ◌<◌, length, ℕ, List, Bool, suc, slice_index_or}
+use Rattle.std.proofs.Common.{◌≡◌, ℕ, List, Bool, suc}
 use Rattle.std.specs.Prelude.{slice_get, Some}
 use Rattle.wide_cones.specs.Rows.{IsConeRow}
 use Rattle.wide_cones.proofs.CycleLemmas.{AreListed}

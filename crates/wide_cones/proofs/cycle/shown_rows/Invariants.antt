@@ -1,4 +1,4 @@
-use Rattle.std.proofs.Common.{◌≡◌, ◌<◌, length, ℕ, List, Bool}
+use Rattle.std.proofs.Common.{◌≡◌, List, Bool}
 use Rattle.std.specs.Prelude.{slice_get, Some}
 use Rattle.wide_cones.specs.Rows.{AreShown}
 use Rattle.wide_cones.proofs.CycleLemmas.{AreListed}

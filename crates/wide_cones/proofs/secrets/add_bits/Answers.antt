@@ -1,4 +1,4 @@
-use Rattle.std.proofs.Common.{◌≡◌, sym, ◌∙◌, ap, map, ◌++◌, ◌∷◌, [], append_assoc}
+use Rattle.std.proofs.Common.{sym, ◌∙◌, ap, map, ◌++◌, ◌∷◌, [], append_assoc}
 use Rattle.std.specs.List.{range_with_len}
 use Rattle.coco_model.specs.Labels.{share_labels}
 use Rattle.wide_cones.proofs.SecretLemmas.{map-range-more, small_share}

@@ -1,4 +1,3 @@
-use Rattle.std.proofs.Common.{rules, ◌≡◌, sym, ◌∙◌, ap, ◌++◌, ◌∷◌, []}
 use Rattle.wide_cones.proofs.SecretLemmas.{small_secret, member_at}
 use Rattle.wide_cones.proofs.secrets.share_sets.Goals as goal
 

@@ -1,4 +1,4 @@
-use Rattle.std.proofs.Common.{◌≡◌, sym, ◌∙◌, ap, ◌++◌, ◌∷◌, []}
+use Rattle.std.proofs.Common.{sym, ◌∙◌, ap, ◌++◌, ◌∷◌, []}
 use Rattle.coco_model.specs.Labels.{share_label}
 use Rattle.wide_cones.proofs.SecretLemmas.{map-range-more}
 use Rattle.wide_cones.proofs.secrets.shares_of.Goals as goal
