@@ -1,9 +1,9 @@
 -- Rows that are spread from the flops' values hold exactly the cones.
-use Rattle.std.proofs.Common.{◌≡◌, ◌≢◌, ℕ, zero, suc, ◌+◌, ◌<◌, ◌≤◌, ◌⊎◌, inl, inr, Bool, true, false, ◌||◌, List, [], ◌∷◌, ◌++◌, map, length, get_or, refl, sym, ◌∙◌, ap, subst, arith, nat_eq, ◌*◌, take, drop}
+use Rattle.std.proofs.Common.{◌≡◌, ℕ, zero, suc, ◌+◌, ◌<◌, ◌⊎◌, inl, inr, Bool, true, false, ◌||◌, List, [], ◌∷◌, ◌++◌, map, length, get_or, refl, sym, ◌∙◌, ap, subst, arith, ◌*◌, take, drop}
 use Rattle.std.proofs.lemmas.Grind.{common_steps}
 use Rattle.std.specs.Prelude.{Contains, slice_get, Option, Some, None, option_to_list, flat_map, Result, Ok, Err, IfOk}
 use Rattle.std.specs.List.{list_any}
-use Rattle.std.proofs.lemmas.Bool.{cases_eq, or_cases, or_left, or_right, true≢false, false≢true, cases_Bool}
+use Rattle.std.proofs.lemmas.Bool.{or_cases, or_left, or_right, false≢true}
 use Rattle.std.proofs.lemmas.Bool.Decides.{nat_tests}
 use Rattle.std.proofs.lemmas.List.Elements.{Contains-append_left, Contains-append_right}
 use Rattle.coco_base.specs.declared.netlist.Flat.{Flat}
@@ -18,18 +18,17 @@ use Rattle.coco_base.specs.declared.setup.MemPlan.{MemPlan}
 use Rattle.coco_base.specs.declared.setup.Start.{Start}
 use Rattle.coco_base.specs.declared.setup.Start.TheVariants.{Public, Label, Fresh}
 use Rattle.coco_base.specs.declared.labels.LabelTable.{LabelTable}
-use Rattle.coco_base.specs.declared.finding.Probe.{Probe}
 use Rattle.coco_model.specs.Netlist.{wires_of, input_bits, IsCellBit, IsFlopBit, IsInputBit, IsLeaf, HasNoRepeat, HasOneDriver}
 use Rattle.coco_model.specs.Carried.{start_state, bound_bits}
 use Rattle.coco_model.specs.Run.{before}
 use Rattle.coco_model.specs.Reach.{Connects}
 use Rattle.coco_model.specs.Reach.Connects.{here, through}
-use Rattle.coco_model.specs.Roots.{Root, roots}
-use Rattle.coco_model.specs.Roots.Root.{nothing, label}
-use Rattle.coco_model.proofs.Basics.{Contains-here, Contains-later, Contains-cases, Contains-none, some_from_any, any_from_member, IsSome}
+use Rattle.coco_model.specs.Roots.{roots}
+use Rattle.coco_model.specs.Roots.Root.{label}
+use Rattle.coco_model.proofs.Basics.{Contains-here, Contains-later, Contains-cases, Contains-none, some_from_any, any_from_member}
 use Rattle.model_laws.proofs.Lists.{Contains-map, place_of_member}
-use Rattle.model_laws.proofs.Ranks.{by_rank, flop_bit_or_not, cell_bit_or_not}
-use Rattle.wide_laws.specs.WideCones.{IsInWideCone, IsInWideProbeCone}
+use Rattle.model_laws.proofs.Ranks.{by_rank, flop_bit_or_not}
+use Rattle.wide_laws.specs.WideCones.{IsInWideCone}
 use Rattle.wide_laws.specs.WideCones.IsInWideCone.{starts, moves, passes}
 use Rattle.wide_cones.specs.Rows.{held, wire_held, is_label, IsSpread, IsLeafRow, IsConeRow, IsProbeRow}
 use Rattle.wide_cones.specs.Ready.{IsReady}

@@ -2,12 +2,11 @@
 use Rattle.std.proofs.Common.{◌≡◌, ◌≢◌, ℕ, zero, suc, ◌+◌, ◌<◌, ◌≤◌, ◌⊎◌, inl, inr, List, [], ◌∷◌, map, length, get_or, set, refl, sym, ◌∙◌, ap, subst, arith, Bor}
 use Rattle.std.specs.Prelude.{Contains, slice_get, Option, Some, None, replicate, IfSome, IfNone, IsSome}
 use Rattle.std.proofs.lemmas.Bool.{cases_eq, cases_order}
-use Rattle.std.proofs.lemmas.List.{get_or-set_same, get_or-set_other, length-set, get_or-replicate, length-replicate}
-use Rattle.std.proofs.lemmas.Grind.{common_steps}
+use Rattle.std.proofs.lemmas.List.{get_or-set_same, get_or-set_other, length-set, length-replicate}
 use Rattle.coco_base.specs.declared.netlist.Flat.{Flat}
 use Rattle.coco_base.specs.declared.netlist.FlatCell.{FlatCell}
 use Rattle.coco_model.specs.Netlist.{HasNoRepeat, IsCellBit}
-use Rattle.coco_model.proofs.Basics.{Contains-none, some_from_any}
+use Rattle.coco_model.proofs.Basics.{some_from_any}
 use Rattle.model_laws.proofs.Lists.{Contains-map, member_of_place, place_of_member}
 use Rattle.wide_cones.specs.Rows.{AreGates, IsGate, Drives, outputs}
 

@@ -1,5 +1,5 @@
 -- Spreading a row through the gates, the bits in ascending order.
-use Rattle.std.proofs.Common.{◌≡◌, ◌≢◌, ℕ, zero, suc, ◌+◌, ◌<◌, ◌≤◌, ◌⊎◌, inl, inr, Bool, true, false, ◌||◌, List, [], ◌∷◌, length, get_or, set, refl, sym, ◌∙◌, ap, subst, arith}
+use Rattle.std.proofs.Common.{◌≡◌, ◌≢◌, ℕ, ◌+◌, ◌<◌, ◌≤◌, ◌⊎◌, inl, inr, Bool, false, List, [], ◌∷◌, length, set, refl, sym, ◌∙◌, ap, subst, arith}
 use Rattle.std.specs.Prelude.{Contains}
 use Rattle.std.specs.List.{list_any}
 use Rattle.std.proofs.lemmas.Bool.{cases_order}
@@ -8,7 +8,7 @@ use Rattle.coco_base.specs.declared.netlist.Flat.{Flat}
 use Rattle.coco_base.specs.declared.netlist.FlatCell.{FlatCell}
 use Rattle.coco_base.specs.declared.netlist.Wire.{Wire}
 use Rattle.coco_base.specs.declared.netlist.Wire.TheVariants.{Const, Bit}
-use Rattle.coco_model.specs.Netlist.{wires_of, IsCellBit, IsRanked, HasNoRepeat}
+use Rattle.coco_model.specs.Netlist.{wires_of, IsCellBit, IsRanked}
 use Rattle.coco_model.proofs.Basics.{Contains-here, Contains-later, any_from_member}
 use Rattle.wide_cones.specs.Rows.{held, wire_held, IsSpread, Drives}
 

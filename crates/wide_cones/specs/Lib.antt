@@ -1,2 +1,5 @@
 pub mod Rows
 pub mod Ready
+pub mod Secrets
+pub mod Cycles
+pub mod Leaks

@@ -1,5 +1,5 @@
 -- Rows of a label: for each bit, whether its cone holds the label.
-use Rattle.std.specs.Prelude.{◌≡◌, ℕ, ◌<◌, Bool, true, false, List, map, length, get_or, slice_get, Option, Some, None, Contains, nat_eq}
+use Rattle.std.specs.Prelude.{◌≡◌, ℕ, Bool, true, false, List, map, length, get_or, slice_get, Option, Some, None, Contains, nat_eq}
 use Rattle.std.specs.List.{list_any}
 use Rattle.coco_base.specs.declared.netlist.Flat.{Flat}
 use Rattle.coco_base.specs.declared.netlist.FlatCell.{FlatCell}
@@ -9,7 +9,6 @@ use Rattle.coco_base.specs.declared.netlist.Wire.TheVariants.{Const, Bit}
 use Rattle.coco_base.specs.declared.setup.Setup.{Setup}
 use Rattle.coco_base.specs.declared.setup.Start.{Start}
 use Rattle.coco_base.specs.declared.setup.Start.TheVariants.{Public, Label, Fresh}
-use Rattle.coco_base.specs.declared.finding.Probe.{Probe}
 use Rattle.coco_model.specs.Netlist.{wires_of, IsCellBit, IsFlopBit}
 use Rattle.coco_model.specs.Run.{before}
 use Rattle.wide_laws.specs.WideCones.{IsInWideCone, IsInWideProbeCone}

@@ -2,7 +2,15 @@
 //! a secret bit.
 #![tactic(auto)]
 
+mod cycle;
 mod gates;
+mod leak;
 mod leaves;
 mod rows;
+mod run;
+mod search;
+mod secrets;
 mod spreading;
+
+pub use leak::Leak;
+pub use run::first_leak;

@@ -1,4 +1,3 @@
-use Rattle.std.proofs.Common.{rules, ◌≡◌, sym, ◌∙◌, ap, ◌<◌, length}
 use Rattle.wide_cones.proofs.GateLemmas.{driver_found, never_none, no_cell, place_below}
 use Rattle.wide_cones.proofs.gates.driver.Goals as goal
 

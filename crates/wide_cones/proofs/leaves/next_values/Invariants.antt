@@ -1,7 +1,6 @@
-use Rattle.std.proofs.Common.{◌≡◌, ◌||◌, map, take, get_or}
+use Rattle.std.proofs.Common.{◌≡◌, map, take}
 use Rattle.coco_base.specs.declared.netlist.FlatFlop.{FlatFlop}
-use Rattle.coco_base.specs.declared.setup.Start.TheVariants.{Public}
-use Rattle.wide_cones.specs.Rows.{held, wire_held, is_label}
+use Rattle.wide_cones.specs.Rows.{wire_held}
 use Rattle.wide_cones.proofs.leaves.next_values.Given as goal
 
 abbrev pub invariant-flops : goal.invariant-flops

@@ -1,6 +1,6 @@
-use Rattle.std.proofs.Common.{rules, ◌≡◌, sym, ◌∙◌, ap, subst, map}
+use Rattle.std.proofs.Common.{◌∙◌, subst}
 use Rattle.wide_cones.specs.Rows.{IsSettledRow}
-use Rattle.wide_cones.proofs.ConeLemmas.{on_ok, next_row, next_test}
+use Rattle.wide_cones.proofs.ConeLemmas.{on_ok, next_row}
 use Rattle.wide_cones.proofs.rows.next_row.Goals as goal
 
 pub returns : goal.returns

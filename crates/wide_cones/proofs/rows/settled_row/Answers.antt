@@ -1,5 +1,3 @@
-use Rattle.std.proofs.Common.{rules, ◌≡◌, sym, ◌∙◌, ap, subst, length}
-use Rattle.wide_cones.specs.Rows.{IsSettledRow, IsSpread}
 use Rattle.wide_cones.proofs.ConeLemmas.{cells_once, flops_once, written_back}
 use Rattle.wide_cones.proofs.rows.settled_row.Goals as goal
 

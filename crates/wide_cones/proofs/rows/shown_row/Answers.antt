@@ -1,6 +1,6 @@
-use Rattle.std.proofs.Common.{rules, ◌≡◌, sym, ◌∙◌, ap, subst, map}
+use Rattle.std.proofs.Common.{◌∙◌, subst}
 use Rattle.wide_cones.specs.Rows.{IsSettledRow}
-use Rattle.wide_cones.proofs.ConeLemmas.{on_ok, probe_row, shown_test}
+use Rattle.wide_cones.proofs.ConeLemmas.{on_ok, probe_row}
 use Rattle.wide_cones.proofs.rows.shown_row.Goals as goal
 
 pub returns : goal.returns

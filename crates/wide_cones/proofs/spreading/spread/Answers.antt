@@ -1,8 +1,8 @@
-use Rattle.std.proofs.Common.{rules, ◌≡◌, sym, ◌∙◌, ap, subst, arith}
+use Rattle.std.proofs.Common.{sym, ◌∙◌, ap, arith}
 use Rattle.std.specs.List.{list_any}
 use Rattle.coco_model.specs.Netlist.{wires_of}
 use Rattle.wide_cones.specs.Rows.{wire_held}
-use Rattle.wide_cones.proofs.SpreadLemmas.{IsSpreadTo, spread_cell, spread_leaf, spread_all}
+use Rattle.wide_cones.proofs.SpreadLemmas.{spread_cell, spread_leaf, spread_all}
 use Rattle.wide_cones.proofs.GateLemmas.{one_driver}
 use Rattle.wide_cones.proofs.spreading.spread.Goals as goal
 use Rattle.wide_cones.proofs.spreading.spread.Goals.{in-Some, in_default}
