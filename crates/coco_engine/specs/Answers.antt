@@ -1,5 +1,5 @@
 -- What a call may leave in its sink, and the status that goes with it.
-use Rattle.std.specs.Prelude.{◌≡◌, ℕ, List, ◌++◌, ◌⊎◌, Option, Some, None, Ok, codes}
+use Rattle.std.specs.Prelude.{◌≡◌, ℕ, List, ◌⊎◌, Option, Some, None, Ok, codes}
 use Rattle.coco_base.specs.Causes.{Rose}
 use Rattle.coco_base.specs.Outside.{IsContent, after}
 use Rattle.coco_base.specs.declared.status.Status.{Status}
@@ -9,7 +9,9 @@ use Rattle.coco_engine.specs.Refusals.{refusal_line, refusal_of}
 use Rattle.coco_engine.specs.Text.{line_of}
 use Rattle.coco_engine.specs.Words.{Command}
 use Rattle.coco_base.specs.declared.netlist.Flat.{Flat}
-use Rattle.coco_engine.specs.Reports.{head_of}
+use Rattle.coco_engine.specs.Reports.{accepted_text, rejected_text}
+use Rattle.coco_base.specs.declared.labels.LabelTable.{LabelTable}
+use Rattle.coco_engine.specs.declared.leak.Leak.{Leak}
 use Rattle.coco_engine.specs.declared.refusal.Refusal.{Refusal}
 use Rattle.coco_engine.specs.declared.refusal.Refusal.TheVariants.{Long, NotBuilt}
 use Rattle.coco_engine.specs.declared.reading.ReadStop.{ReadStop}
@@ -21,8 +23,8 @@ fault_line name = line_of (codes "read fault ") name (codes "\n")
 
 -- this text goes with this status, where the netlist is read as this one
 abbrev pub FlatAnswers : Command → Flat → Status → List ℕ → Type 0
-FlatAnswers c flat Accepted text = (secrets : ℕ) × ((labels : ℕ) × (text ≡ head_of (codes "accepted\n") c flat secrets labels))
-FlatAnswers c flat Rejected text = (secrets : ℕ) × ((labels : ℕ) × ((rest : List ℕ) × (text ≡ head_of (codes "rejected\n") c flat secrets labels ++ rest)))
+FlatAnswers c flat Accepted text = (table : LabelTable) × (text ≡ accepted_text c flat table)
+FlatAnswers c flat Rejected text = (table : LabelTable) × ((leak : Leak) × ((leaves : List ℕ) × (text ≡ rejected_text c flat table leak leaves)))
 FlatAnswers c flat Undecided text = ⊥
 FlatAnswers c flat Refused text = text ≡ refusal_line (NotBuilt c.labels)
 FlatAnswers c flat ReadFault text = ⊥

@@ -1,7 +1,10 @@
 pub mod Answers
 pub mod Files
+pub mod Findings
+pub mod Names
 pub mod Refusals
 pub mod Reports
 pub mod Requests
+pub mod Shown
 pub mod Text
 pub mod Words

@@ -5,6 +5,7 @@ ghost use Rattle.coco_engine.specs.Refusals.{file_limit, refusal_line};
 ghost use Rattle.coco_engine.specs.Requests.{shown_command};
 ghost use Rattle.coco_engine.specs.Words.{command, texts};
 
+use crate::cones::reached;
 use crate::labels::{Labels, read_labels};
 use crate::leak::first_leak;
 use crate::reading::{ReadStop, read_whole};
@@ -51,16 +52,24 @@ fn verdict(
 ) -> Result<Reply, NoMemory>
     ensures { IfOk result (λ r. FlatAnswers (shown_command request.now) flat.now r.status r.text.items) }
 {
-    match first_leak(alloc, flat, labels, request.cycles)? {
-        None => Ok(Reply {
+    let Some(leak) = first_leak(alloc, flat, labels, request.cycles)? else {
+        return Ok(Reply {
             status: Status::Accepted,
-            text: report::accepted(alloc, request, flat, labels)?,
-        }),
-        Some(leak) => Ok(Reply {
-            status: Status::Rejected,
-            text: report::rejected(alloc, request, flat, labels, &leak)?,
-        }),
-    }
+            text: report::accepted(alloc, request, flat, &labels.table)?,
+        });
+    };
+    let leaves = reached(alloc, flat, leak.bit)?;
+    Ok(Reply {
+        status: Status::Rejected,
+        text: report::rejected(
+            alloc,
+            request,
+            flat,
+            &labels.table,
+            &leak,
+            leaves.as_slice(),
+        )?,
+    })
 }
 
 fn judged_flat(
