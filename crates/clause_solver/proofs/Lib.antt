@@ -1,0 +1,4 @@
+pub mod SignFacts
+pub mod TrailFacts
+pub mod StandingFacts
+pub mod PropagationFacts
