@@ -1,5 +1,5 @@
 -- The analysis of a conflict: marks of variables stand for the clause that there is so far.
-use Rattle.std.specs.Prelude.{◌≡◌, ◌≢◌, ℕ, ◌<◌, ◌≤◌, Bool, true, false, not, List, [], length, take, drop, map, Option, Some, None, is_some, option_map, slice_get, slice_index_or, count_by, cond, eqb, All}
+use Rattle.std.specs.Prelude.{◌≡◌, ◌≢◌, ℕ, ◌+◌, ◌<◌, ◌≤◌, Bool, true, false, not, List, [], ◌∷◌, length, take, drop, map, Option, Some, None, is_some, option_map, slice_get, slice_index_or, cond, eqb, All}
 use Rattle.clause_store.specs.declared.lit.Lit.{Lit}
 use Rattle.clause_store.specs.declared.line.Cut.{Cut}
 use Rattle.clause_store.specs.Signs.{Signs, sign_of}
@@ -18,8 +18,11 @@ marked_signs lits marks v = cond (is_marked marks v) (option_map not (sign_of li
 abbrev pub flags : List Bool → List Lit → List Bool
 flags marks lits = map (λ l. is_marked marks l.var) lits
 
+-- how many are true
 abbrev pub trues : List Bool → ℕ
-trues xs = count_by (λ b. b) xs
+trues [] = 0
+trues (true ∷ xs) = trues xs + 1
+trues (false ∷ xs) = trues xs
 
 -- how many places from the start on are marked
 abbrev pub marked_from : List Bool → List Lit → ℕ → ℕ
@@ -54,9 +57,9 @@ pub record IsAnalyzed (h : History) (clause : List Lit) : Type 0 where
 abbrev pub least_of : History → ℕ
 least_of h = cond (eqb (length h.starts) 0) 0 1
 
--- the marks are the clause of a number, which is false, and some mark stands for the last decision if there is one
-pub record IsBegun (clauses : List (List Lit)) (h : History) (id : ℕ) (marks : List Bool) (count : ℕ) : Type 0 where
+-- the same, from the clause of a number
+pub record IsChained (clauses : List (List Lit)) (h : History) (first : ℕ) (cuts : List Cut) (marks : List Bool) (top count : ℕ) : Type 0 where
   pub conflict : List Lit
-  pub named : slice_get clauses id ≡ Some conflict
-  pub walked : IsWalked clauses h.lits conflict [] marks (level_start_of h) (length h.lits) count
+  pub named : slice_get clauses first ≡ Some conflict
+  pub walked : IsWalked clauses h.lits conflict cuts marks (level_start_of h) top count
   pub least : least_of h ≤ count

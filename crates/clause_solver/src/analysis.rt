@@ -1,15 +1,31 @@
-ghost use Rattle.std.specs.Prelude.{◌≡◌, ℕ, ◌+◌, ◌-◌, ◌<◌, ◌≤◌, ◌^◌, List, length, false, All, IfOk, OnOk};
-ghost use Rattle.clause_store.specs.declared.lit.Lit.{Lit as StoredLit};
+ghost use Rattle.std.specs.Prelude.{◌≡◌, ℕ, ◌+◌, ◌-◌, ◌<◌, ◌≤◌, ◌^◌, [], length, false, All, IfOk, OnOk};
 ghost use Rattle.clause_store.specs.Derivations.{clauses_of, IsValidLine};
 ghost use Rattle.clause_solver.specs.Trails.{level_start_of};
-ghost use Rattle.clause_solver.specs.Propagation.{IsExplained, IsBrokenAt, IsInRange};
-ghost use Rattle.clause_solver.specs.Analysis.{IsWalked, IsAnalyzed, least_of, IsBegun};
+ghost use Rattle.clause_solver.specs.Propagation.{IsExplained, IsBrokenAt};
+ghost use Rattle.clause_solver.specs.Analysis.{IsChained, IsAnalyzed, least_of};
 
 use crate::marks::{collect, mark_clause};
 use crate::trail::Trail;
 use clause_store::{Cut, Line, Lit, Store, clause_at};
 use coco_base::{List, NoMemory};
 use std::alloc::Global;
+
+/// A chain of resolvents so far: the number of its first clause, and its cuts.
+#[derive(Drop)]
+struct Chain {
+    first: u32,
+    cuts: List<Cut>,
+}
+
+/// How many marks from the last decision on are left at the end.
+fn least_marks(trail: &Trail) -> u32
+    ensures { result ≡ least_of trail.now }
+{
+    if trail.levels() == 0 {
+        return 0;
+    }
+    1
+}
 
 /// Marks the clause of a number, and counts the marks from the start on.
 fn begin(marks: &mut [bool], trail: &Trail, store: &Store, lines: &[Line], id: u32, start: u32) -> u32
@@ -18,7 +34,7 @@ fn begin(marks: &mut [bool], trail: &Trail, store: &Store, lines: &[Line], id: u
     requires len { length marks.old ≡ trail.now.vars }
     requires clear { All (λ b. b ≡ false) marks.old }
     requires start { start ≡ level_start_of trail.now }
-    ensures begun { IsBegun (clauses_of store.now lines.now) trail.now id marks.new result }
+    ensures chained { IsChained (clauses_of store.now lines.now) trail.now id [] marks.new (length trail.now.lits) result }
     ensures len { length marks.new ≡ length marks.old }
 {
     match clause_at(store, lines, id) {
@@ -33,16 +49,16 @@ fn step_back(
     store: &Store,
     lines: &[Line],
     marks: &mut [bool],
-    cuts: &mut List<Cut>,
+    chain: &mut Chain,
     place: u32,
     count: u32,
 ) -> Result<u32, NoMemory>
     requires explained { IsExplained (clauses_of store.now lines.now) trail.now }
     requires len { length marks.old ≡ trail.now.vars }
     requires more { least_of trail.now < count }
-    requires place { place < length trail.now.lits }
-    ensures walked { IfOk result (λ n. (conflict : List StoredLit) → IsWalked (clauses_of store.now lines.now) trail.now.lits conflict cuts.old marks.old (level_start_of trail.now) (place + 1) count → IsWalked (clauses_of store.now lines.now) trail.now.lits conflict cuts.new marks.new (level_start_of trail.now) place n) }
-    ensures least { IfOk result (λ n. least_of trail.now ≤ n) }
+    requires chained { IsChained (clauses_of store.now lines.now) trail.now chain.old.first chain.old.cuts marks.old (place + 1) count }
+    ensures chained { IfOk result (IsChained (clauses_of store.now lines.now) trail.now chain.new.first chain.new.cuts marks.new place) }
+    ensures first { chain.new.first ≡ chain.old.first }
     ensures len { length marks.new ≡ length marks.old }
 {
     let start = trail.level_start();
@@ -55,7 +71,7 @@ fn step_back(
         Some(id) => match clause_at(store, lines, id) {
             None => Ok(count),
             Some(clause) => {
-                cuts.push(Cut { var: lit.var, id })?;
+                chain.cuts.push(Cut { var: lit.var, id })?;
                 let total = mark_clause(marks, trail, clause, start, count);
                 marks[lit.var as usize] = false;
                 Ok(total - 1)
@@ -82,18 +98,22 @@ pub(crate) fn analyze(
     ensures clear { OnOk result (All (λ b. b ≡ false) marks.new) }
     ensures len { length marks.new ≡ length marks.old }
 {
-    let least = if trail.levels() == 0 { 0 } else { 1 };
+    let least = least_marks(trail);
     let mut count = begin(marks, trail, store, lines, id, trail.level_start());
-    let mut cuts = List::new(alloc);
+    let mut chain = Chain {
+        first: id,
+        cuts: List::new(alloc),
+    };
     let mut top = trail.len();
     'cutting: while count > least {
         top -= 1;
-        count = step_back(trail, store, lines, marks, &mut cuts, top, count)?;
+        count = step_back(trail, store, lines, marks, &mut chain, top, count)?;
     }
     let clause = collect(alloc, trail, marks)?;
+    let Chain { first, cuts } = chain;
     Ok(Line {
         clause,
-        first: id,
+        first,
         cuts,
     })
 }

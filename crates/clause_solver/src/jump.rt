@@ -41,7 +41,7 @@ fn kept_level(trail: &Trail, kept: u32) -> usize
 /// Goes back to the lowest level at which all literals of the learnt clause but one are still false.
 pub(crate) fn jump_back(trail: &mut Trail, clause: &[Lit])
     requires levels { 0 < length trail.old.starts }
-    requires place { level_start_of trail.old < length trail.old.lits }
+    requires bounded { (k : ℕ) → k < length trail.old.starts → slice_index trail.old.starts k < length trail.old.lits }
     requires range { IsInRange trail.old.vars clause.now }
     requires analyzed { IsAnalyzed trail.old clause.now }
     ensures explained { (clauses : List (List StoredLit)) → IsExplained clauses trail.old → IsExplained (clauses ++ clause.now ∷ []) trail.new }

@@ -20,12 +20,12 @@ fn mark(marks: &mut [bool], trail: &Trail, var: u32, start: u32, count: u32) -> 
     ensures others { (v : ℕ) → (v ≡ var → ⊥) → is_marked marks.new v ≡ is_marked marks.old v }
     ensures len { length marks.new ≡ length marks.old }
     ensures counted { result ≡ marked_from marks.new trail.now.lits start }
+    ensures grows { count ≤ result }
 {
     if marks[var as usize] {
         return count;
     }
     let place = trail.place(var);
-    let len = trail.len();
     marks[var as usize] = true;
     if place >= start {
         return count + 1;
@@ -48,6 +48,7 @@ pub(crate) fn mark_clause(
     ensures marked { (v : ℕ) → is_marked marks.new v ≡ (is_marked marks.old v || is_some (sign_of clause.now v)) }
     ensures len { length marks.new ≡ length marks.old }
     ensures counted { result ≡ marked_from marks.new trail.now.lits start }
+    ensures grows { count ≤ result }
 {
     let mut total = count;
     'marking: for lit in clause {

@@ -1,5 +1,5 @@
 ghost use Rattle.std.specs.Prelude.{◌≡◌, ◌≢◌, ℕ, ◌<◌, ◌≤◌, ◌^◌, [], length, false, All, Contains, MatchBool, IfOk, slice_index_or, unwrap_or};
-ghost use Rattle.clause_store.specs.Signs.{sign_of};
+ghost use Rattle.clause_store.specs.Signs.{Ascends, sign_of};
 ghost use Rattle.clause_solver.specs.Outcomes.{IsOutcome};
 ghost use Rattle.clause_solver.specs.Propagation.{IsOver};
 
@@ -16,7 +16,8 @@ use std::alloc::Global;
 
 /// Whether some clause is empty.
 fn has_empty(store: &Store) -> bool
-    ensures { MatchBool result (Contains store.now []) (All (λ c. c ≢ []) store.now) }
+    ensures found { MatchBool result (Contains store.now []) (All (λ c. c ≢ []) store.now) }
+    ensures ascending { All Ascends store.now }
 {
     'seeking: for id in 0..store.count() {
         if store.get(id).is_empty() {

@@ -92,7 +92,8 @@ impl Trail {
     /// The place of a variable that is set.
     pub(crate) fn place(&self, var: u32) -> u32
         requires { IsSome (sign_of self.now.lits var) }
-        ensures { IsPlaceOf self.now.lits var result }
+        ensures place { IsPlaceOf self.now.lits var result }
+        ensures coherent { IsCoherent self.now }
     {
         self.places[var as usize]
     }
