@@ -7,3 +7,4 @@ pub mod MarkFacts
 pub mod AnalysisFacts
 pub mod JumpFacts
 pub mod OutcomeFacts
+pub mod LineCount

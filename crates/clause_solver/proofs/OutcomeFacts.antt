@@ -163,3 +163,13 @@ ready_new store vars ascends over small filled =
       len = length-replicate vars false;
       clear = All-replicate (λ b. b ≡ false) vars false refl;
     }
+
+-- after a search
+pub ready_searched : (store : List (List Lit)) (lines : List Line) (h after : History) (marks : List Bool) → IsReady store lines h marks → IsExplained (clauses_of store lines) after → after.vars ≡ h.vars → IsReady store lines after marks
+ready_searched store lines h after marks r x same = record {
+  explained = x;
+  progress = r.progress;
+  no_empty = r.no_empty;
+  len = r.len ∙ sym same;
+  clear = r.clear;
+}
