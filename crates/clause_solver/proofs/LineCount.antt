@@ -130,14 +130,14 @@ within_lines store lines n hs valid zero k line lt e = absurd (omega arith)
 within_lines store lines n hs valid (suc m) k line lt e =
     let x : IsValidLine (earlier store lines k) line = valid k line e in
     let all : (id : ℕ) (c : List Lit) → slice_get (earlier store lines k) id ≡ Some c → Within n (sign_of c) =
-    λ id c named. from id c named (named_cases store (take k lines) id c named) in
+    λ id c named. from (λ j l less at. within_lines store lines n hs valid m j l less at) id c named (named_cases store (take k lines) id c named) in
     within_chain n (earlier store lines k) all (sign_of x.start) line.cuts (sign_of line.clause) x.leads (all line.first x.start x.first)
   where
-    from : (id : ℕ) (c : List Lit) → slice_get (earlier store lines k) id ≡ Some c → (slice_get store id ≡ Some c) ⊎ ((j : ℕ) × (l : Line) × (slice_get (take k lines) j ≡ Some l) × (l.clause ≡ c)) → Within n (sign_of c)
-    from id c named (inl old) = hs id c old
-    from id c named (inr h) =
+    from : ((j : ℕ) (l : Line) → j < m → slice_get lines j ≡ Some l → Within n (sign_of l.clause)) → (id : ℕ) (c : List Lit) → slice_get (earlier store lines k) id ≡ Some c → (slice_get store id ≡ Some c) ⊎ ((j : ℕ) × (l : Line) × (slice_get (take k lines) j ≡ Some l) × (l.clause ≡ c)) → Within n (sign_of c)
+    from rest id c named (inl old) = hs id c old
+    from rest id c named (inr h) =
         let old : (h.0 < k) × (slice_get lines h.0 ≡ Some h.1) = slice_get-take k lines h.0 h.1 h.2 in
-        subst (λ x. Within n (sign_of x)) h.3 (within_lines store lines n hs valid m h.0 h.1 (let a : h.0 < k = old.0 in omega arith) old.1)
+        subst (λ x. Within n (sign_of x)) h.3 (rest h.0 h.1 (let a : h.0 < k = old.0 in omega arith) old.1)
 
 -- a clause that is new says something else than each earlier one
 new_differs : (clauses : List (List Lit)) (c d : List Lit) (id : ℕ) → IsNewUnder clauses c → slice_get clauses id ≡ Some d → ((v : ℕ) → sign_of d v ≡ sign_of c v) → ⊥
