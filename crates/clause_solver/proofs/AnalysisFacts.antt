@@ -168,6 +168,7 @@ goes_on clauses h conflict cuts marks p n l x w more e marked =
           | inl eq ↦ absurd (ne eq)
           | inr apart ↦ elim (cases_lt s p) [ inl less ↦ less | inr ge ↦ absurd (ne (omega arith)) ]
         ]
+
     not_decided : IsExplained clauses h → (p : ℕ) → level_start_of h < p → slice_get h.reasons p ≡ Some None → ⊥
     not_decided x p past none =
         let d : (k : ℕ) × (k < length h.starts) × (slice_index h.starts k ≡ p) = x.decided p none in
@@ -353,6 +354,7 @@ marked_is lits marks v s e = (cond_true (is_marked marks v) _ e, opposite_sign (
     cond_true : (b : Bool) (o : Option Bool) → cond b o None ≡ Some s → b ≡ true
     cond_true true o e = refl
     cond_true false o e = absurd (cc)
+
     opposite_sign : (b : Bool) (o : Option Bool) (s : Bool) → cond b (option_map not o) None ≡ Some s → o ≡ Some (not s)
     opposite_sign true None s e = absurd (cc)
     opposite_sign true (Some x) s e = let h : not x ≡ s = same_Some (not x) s e in ap (λ b. Some b) (sym (not_not x) ∙ ap not h)
@@ -411,15 +413,15 @@ empty_from_signs (l ∷ c) h =
 no_marks : (lits c : List Lit) (marks : List Bool) → ((v : ℕ) → sign_of c v ≡ marked_signs lits marks v) → marked_from marks lits 0 ≡ 0 → c ≡ []
 no_marks lits c marks signs none =
     empty_from_signs c (λ v.
-        elim (cases_option (sign_of c v)) [
-          | inl e ↦ e
-          | inr some ↦
-              let m : (is_marked marks v ≡ true) × (sign_of lits v ≡ Some (not some.0)) = marked_is lits marks v some.0 (sym (signs v) ∙ some.1) in
-              let at : IsFirstAt lits v (not some.0) = sign_found lits v (not some.0) m.1 in
-              let flag : get_or (drop 0 (flags marks lits)) (at.place - 0) false ≡ true = flag_of lits marks 0 v (not some.0) at m.0 (omega arith) in
-              let n : get_or (drop 0 (flags marks lits)) (at.place - 0) false ≡ false = none_true (drop 0 (flags marks lits)) none (at.place - 0) in
-              absurd (cc)
-        ])
+    elim (cases_option (sign_of c v)) [
+      | inl e ↦ e
+      | inr some ↦
+          let m : (is_marked marks v ≡ true) × (sign_of lits v ≡ Some (not some.0)) = marked_is lits marks v some.0 (sym (signs v) ∙ some.1) in
+          let at : IsFirstAt lits v (not some.0) = sign_found lits v (not some.0) m.1 in
+          let flag : get_or (drop 0 (flags marks lits)) (at.place - 0) false ≡ true = flag_of lits marks 0 v (not some.0) at m.0 (omega arith) in
+          let n : get_or (drop 0 (flags marks lits)) (at.place - 0) false ≡ false = none_true (drop 0 (flags marks lits)) none (at.place - 0) in
+          absurd (cc)
+    ])
 
 -- at the end of an analysis
 pub analyzed_is : (clauses : List (List Lit)) (h : History) (first : ℕ) (cuts : List Cut) (marks : List Bool) (top n : ℕ) (c : List Lit) → IsExplained clauses h → IsChained clauses h first cuts marks top n → n ≤ least_of h → IsInRange h.vars c → ((v : ℕ) → sign_of c v ≡ marked_signs h.lits marks v) → IsAnalyzed h c

@@ -115,6 +115,7 @@ explained_jump clauses h c kept level x range learnt k kl =
                 | inr ne ↦ let o : slice_index h.starts level < slice_index h.starts j = x.ordered level j (omega arith) jn in absurd (omega arith)
               ]
         ]
+
     still_closed : (j : ℕ) → j < level → IsClosedFor (take (slice_index h.starts j) h.lits) c
     still_closed j lt = by_level kl.keeps
       where
@@ -124,9 +125,11 @@ explained_jump clauses h c kept level x range learnt k kl =
               | inl eq ↦ let same : slice_index h.starts j ≡ slice_index h.starts (level - 1) = ap (slice_index h.starts) eq in omega arith
               | inr ne ↦ let below : level < length h.starts = kl.below_last in let o : slice_index h.starts j < slice_index h.starts (level - 1) = x.ordered j (level - 1) (omega arith) (omega arith) in omega arith
             ]
+
         by_end : slice_index h.starts j < kept → (kept ≡ 0) ⊎ EndsAt h.lits c kept → IsClosedFor (take (slice_index h.starts j) h.lits) c
         by_end less (inl none) = absurd (omega arith)
         by_end less (inr ends) = two_open h.lits c (level_start_of h) kept (slice_index h.starts j) x.coherent.fresh learnt ends less k.within
+
         by_level : (level ≡ 0) ⊎ (slice_index h.starts (level - 1) < kept) → IsClosedFor (take (slice_index h.starts j) h.lits) c
         by_level (inl none) = absurd (omega arith)
         by_level (inr last) = by_end (before_kept last) k.ends

@@ -146,6 +146,7 @@ new_differs clauses c d id x named same = by (at_all (IsClosedFor x.assignment) 
     not_same : (b : Bool) → b ≡ not b → ⊥
     not_same true e = absurd (cc)
     not_same false e = absurd (cc)
+
     by : IsClosedFor x.assignment d → ⊥
     by (inl t) =
         elim (cases_eq t.var x.var) [

@@ -40,24 +40,24 @@ fresh_apart lits fresh p q l m el em same =
 pub flags_set : (marks : List Bool) (lits : List Lit) (p : ℕ) (l : Lit) (b : Bool) → IsFresh lits → slice_get lits p ≡ Some l → l.var < length marks → flags (set marks l.var b) lits ≡ set (flags marks lits) p b
 flags_set marks lits p l b fresh e lt =
     same_lists _ _ (length-flags (set marks l.var b) lits ∙ sym (length-flags marks lits) ∙ sym (length-set (flags marks lits) p b)) (λ k d k<n.
-        let n : length (flags (set marks l.var b) lits) ≡ length lits = length-flags (set marks l.var b) lits in
-        let m : length (flags marks lits) ≡ length lits = length-flags marks lits in
-        let here : slice_get lits k ≡ Some (get_or lits k l) = slice_get-get_or lits k l (omega arith) in
-        let left : get_or (flags (set marks l.var b) lits) k d ≡ is_marked (set marks l.var b) (get_or lits k l).var = get_or-map (λ (x : Lit). is_marked (set marks l.var b) x.var) lits k l d (omega arith) in
-        elim (cases_eq k p) [
-          | inl eq ↦
-              let at : get_or lits k l ≡ l = get_or_from_slice_get lits k l l (ap (slice_get lits) eq ∙ e) in
-              let a : is_marked (set marks l.var b) (get_or lits k l).var ≡ b = ap (λ (x : Lit). is_marked (set marks l.var b) x.var) at ∙ get_or-set_same marks l.var b false lt in
-              let c : get_or (set (flags marks lits) p b) p d ≡ b = get_or-set_same (flags marks lits) p b d (omega arith) in
-              let c' : get_or (set (flags marks lits) p b) k d ≡ b = ap (λ x. get_or (set (flags marks lits) p b) x d) eq ∙ c in
-              left ∙ a ∙ sym c'
-          | inr ne ↦
-              let other : (get_or lits k l).var ≢ l.var = λ same. ne (fresh_apart lits fresh k p _ l here e same) in
-              let a : is_marked (set marks l.var b) (get_or lits k l).var ≡ is_marked marks (get_or lits k l).var = get_or-set_other marks l.var (get_or lits k l).var b false other in
-              let c : get_or (set (flags marks lits) p b) k d ≡ get_or (flags marks lits) k d = get_or-set_other (flags marks lits) p k b d ne in
-              let f : get_or (flags marks lits) k d ≡ is_marked marks (get_or lits k l).var = get_or-map (λ (x : Lit). is_marked marks x.var) lits k l d (omega arith) in
-              left ∙ a ∙ sym f ∙ sym c
-        ])
+    let n : length (flags (set marks l.var b) lits) ≡ length lits = length-flags (set marks l.var b) lits in
+    let m : length (flags marks lits) ≡ length lits = length-flags marks lits in
+    let here : slice_get lits k ≡ Some (get_or lits k l) = slice_get-get_or lits k l (omega arith) in
+    let left : get_or (flags (set marks l.var b) lits) k d ≡ is_marked (set marks l.var b) (get_or lits k l).var = get_or-map (λ (x : Lit). is_marked (set marks l.var b) x.var) lits k l d (omega arith) in
+    elim (cases_eq k p) [
+      | inl eq ↦
+          let at : get_or lits k l ≡ l = get_or_from_slice_get lits k l l (ap (slice_get lits) eq ∙ e) in
+          let a : is_marked (set marks l.var b) (get_or lits k l).var ≡ b = ap (λ (x : Lit). is_marked (set marks l.var b) x.var) at ∙ get_or-set_same marks l.var b false lt in
+          let c : get_or (set (flags marks lits) p b) p d ≡ b = get_or-set_same (flags marks lits) p b d (omega arith) in
+          let c' : get_or (set (flags marks lits) p b) k d ≡ b = ap (λ x. get_or (set (flags marks lits) p b) x d) eq ∙ c in
+          left ∙ a ∙ sym c'
+      | inr ne ↦
+          let other : (get_or lits k l).var ≢ l.var = λ same. ne (fresh_apart lits fresh k p _ l here e same) in
+          let a : is_marked (set marks l.var b) (get_or lits k l).var ≡ is_marked marks (get_or lits k l).var = get_or-set_other marks l.var (get_or lits k l).var b false other in
+          let c : get_or (set (flags marks lits) p b) k d ≡ get_or (flags marks lits) k d = get_or-set_other (flags marks lits) p k b d ne in
+          let f : get_or (flags marks lits) k d ≡ is_marked marks (get_or lits k l).var = get_or-map (λ (x : Lit). is_marked marks x.var) lits k l d (omega arith) in
+          left ∙ a ∙ sym f ∙ sym c
+    ])
 
 drop_set_from : (xs : List Bool) (start p : ℕ) (b : Bool) → start ≤ p → drop start (set xs p b) ≡ set (drop start xs) (p - start) b
 drop_set_from xs start p b le =

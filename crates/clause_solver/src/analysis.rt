@@ -28,7 +28,14 @@ fn least_marks(trail: &Trail) -> u32
 }
 
 /// Marks the clause of a number, and counts the marks from the start on.
-fn begin(marks: &mut [bool], trail: &Trail, store: &Store, lines: &[Line], id: u32, start: u32) -> u32
+fn begin(
+    marks: &mut [bool],
+    trail: &Trail,
+    store: &Store,
+    lines: &[Line],
+    id: u32,
+    start: u32,
+) -> u32
     requires explained { IsExplained (clauses_of store.now lines.now) trail.now }
     requires broken { IsBrokenAt (clauses_of store.now lines.now) trail.now.lits id }
     requires len { length marks.old ≡ trail.now.vars }

@@ -30,12 +30,7 @@ pub(crate) enum Swept {
 }
 
 /// Sets the last literal of a clause where all its others are false.
-fn look_at(
-    trail: &mut Trail,
-    store: &Store,
-    lines: &[Line],
-    id: u32,
-) -> Result<Visit, NoMemory>
+fn look_at(trail: &mut Trail, store: &Store, lines: &[Line], id: u32) -> Result<Visit, NoMemory>
     requires explained { IsExplained (clauses_of store.now lines.now) trail.old }
     requires id { id < length (clauses_of store.now lines.now) }
     ensures explained { OnOk result (IsExplained (clauses_of store.now lines.now) trail.new) }
@@ -56,11 +51,7 @@ fn look_at(
     }
 }
 
-fn sweep(
-    trail: &mut Trail,
-    store: &Store,
-    lines: &[Line],
-) -> Result<Swept, NoMemory>
+fn sweep(trail: &mut Trail, store: &Store, lines: &[Line]) -> Result<Swept, NoMemory>
     requires explained { IsExplained (clauses_of store.now lines.now) trail.old }
     requires room { length lines.now ≤ 1000000000 }
     ensures explained { OnOk result (IsExplained (clauses_of store.now lines.now) trail.new) }

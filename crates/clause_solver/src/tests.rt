@@ -1,4 +1,5 @@
-ghost use Rattle.std.specs.Prelude.{◌≡◌, ℕ, ◌<◌, ◌≤◌, ◌^◌, All, MatchBool, ⊤};
+ghost use Rattle.std.specs.Prelude.{ℕ, ◌<◌, ◌≤◌, ◌^◌, All, MatchBool, ⊤, IfSome, IfNone};
+ghost use Rattle.pickers.specs.Choices.{IsOpen, AllAreSet};
 ghost use Rattle.clause_solver.specs.Propagation.{IsOver};
 
 use crate::outcome::Outcome;
@@ -7,7 +8,9 @@ use clause_store::{Lit, Store, is_ascending};
 use coco_base::NoMemory;
 use pickers::{FirstOpen, LastBumped, MostBumped, Picker};
 use std::alloc::Global;
+use std::cell::Cell;
 use std::process::Abort;
+use std::rc::Rc;
 use std::test::Fail;
 
 /// The eight clauses over three variables that have each variable once. No values meet them all.
@@ -185,4 +188,194 @@ fn an_empty_clause_needs_no_line(rt: HostRuntime) -> Result<(), NoMemory> {
         outcome => panic!(rt; "{outcome:?}"),
     }
     Ok(())
+}
+
+/// Picks as `FirstOpen`, and counts its picks and its drops.
+struct Counting {
+    picks: Rc<Cell<u32>>,
+    drops: Rc<Cell<u32>>,
+}
+
+impl Drop for Counting {
+    fn drop(self) {
+        let Counting { picks: _, drops } = self;
+        drops.set(drops.get().wrapping_add(1));
+    }
+}
+
+impl Picker for Counting {
+    ghost bound = { λ _. 0 };
+
+    fn size(&self) -> u32 {
+        0
+    }
+
+    fn bump(&mut self, _var: u32) {}
+
+    fn pick(&mut self, unset: &[bool]) -> Option<u32> {
+        self.picks.set(self.picks.get().wrapping_add(1));
+        FirstOpen.pick(unset)
+    }
+}
+
+#[test]
+fn a_picker_is_asked_and_dropped_once(rt: HostRuntime) -> Result<(), Fail> {
+    let alloc = rt.alloc();
+    let picks = Rc::new(alloc, Cell::new(0u32))?;
+    let drops = Rc::new(alloc, Cell::new(0u32))?;
+    let picker = Counting {
+        picks: picks.clone()?,
+        drops: drops.clone()?,
+    };
+    let store = all_signs(&rt, alloc)?;
+    let outcome = solved(&rt, alloc, &store, 3, 27, Box::new(alloc, picker)?)?;
+    assert!(rt; matches!(outcome, Outcome::Derived(_)));
+    assert!(rt; picks.get() > 0);
+    assert_eq!(rt; drops.get(), 1);
+    Ok(())
+}
+
+/// Picks the greatest unset variable, and records which were unset at each pick, as the bits of a number.
+struct Recording {
+    count: Rc<Cell<u32>>,
+    masks: Rc<Cell<[u32; 9]>>,
+}
+
+impl Drop for Recording {
+    fn drop(self) {
+        let Recording { count: _, masks: _ } = self;
+    }
+}
+
+fn mask_of(unset: &[bool]) -> u32 {
+    let mut mask = 0u32;
+    for is_unset in unset.iter().rev() {
+        mask = (mask << 1) | u32::from(*is_unset);
+    }
+    mask
+}
+
+fn last_open(unset: &[bool]) -> Option<usize>
+    ensures picked { IfSome result (IsOpen unset.now) }
+    ensures none { IfNone result (AllAreSet unset.now) }
+{
+    'seeking: for var in (0..unset.len()).rev() {
+        if unset[var] {
+            return Some(var);
+        }
+    }
+    None
+}
+
+impl Picker for Recording {
+    ghost bound = { λ _. 0 };
+
+    fn size(&self) -> u32 {
+        0
+    }
+
+    fn bump(&mut self, _var: u32) {}
+
+    fn pick(&mut self, unset: &[bool]) -> Option<u32> {
+        let count = self.count.get();
+        let mut masks = self.masks.get();
+        if count < 9 {
+            masks[count as usize] = mask_of(unset);
+            self.masks.set(masks);
+            self.count.set(count + 1);
+        }
+        match last_open(unset) {
+            Some(var) => Some(var as u32),
+            None => None,
+        }
+    }
+}
+
+#[test]
+fn decisions_follow_the_picker(rt: HostRuntime) -> Result<(), Fail> {
+    let alloc = rt.alloc();
+    let count = Rc::new(alloc, Cell::new(0u32))?;
+    let masks = Rc::new(alloc, Cell::new([0u32; 9]))?;
+    let picker = Recording {
+        count: count.clone()?,
+        masks: masks.clone()?,
+    };
+    let store = Store::new(alloc);
+    match solved(&rt, alloc, &store, 8, 1, Box::new(alloc, picker)?)? {
+        Outcome::Satisfied(values) => assert_eq!(rt; values.as_slice(), [false; 8].as_slice()),
+        outcome => panic!(rt; "{outcome:?}"),
+    }
+    assert_eq!(rt; count.get(), 9);
+    assert_eq!(rt; masks.get(), [255, 127, 63, 31, 15, 7, 3, 1, 0]);
+    Ok(())
+}
+
+/// The next number of a fixed sequence that looks random.
+fn next_number(state: u64) -> u64 {
+    state
+        .wrapping_mul(6_364_136_223_846_793_005)
+        .wrapping_add(1_442_695_040_888_963_407)
+}
+
+/// A clause of three different variables below 20, at random.
+fn random_clause(state: u64) -> [Lit; 3] {
+    let one = (state >> 33) % 6;
+    let two = (state >> 40) % 7;
+    let three = (state >> 47) % 7;
+    [
+        Lit {
+            var: one as u32,
+            positive: (state >> 54) % 2 == 0,
+        },
+        Lit {
+            var: 6 + two as u32,
+            positive: (state >> 55) % 2 == 0,
+        },
+        Lit {
+            var: 13 + three as u32,
+            positive: (state >> 56) % 2 == 0,
+        },
+    ]
+}
+
+/// Answers by chance: few clauses are met, many are refuted.
+fn assert_random(
+    rt: &impl Abort,
+    alloc: Global,
+    clauses: u32,
+    can_be_met: bool,
+) -> Result<(), NoMemory> {
+    let mut state = 7u64;
+    let mut store = Store::new(alloc);
+    for _ in 0..clauses {
+        state = next_number(state);
+        add(rt, &mut store, &random_clause(state))?;
+    }
+    let picker = Box::new(alloc, MostBumped::new(alloc, 20)?)?;
+    match solved(rt, alloc, &store, 20, 100_000, picker)? {
+        Outcome::Satisfied(values) => {
+            assert!(rt; can_be_met);
+            let met = meets(&store, values.as_slice());
+            assert!(rt; met);
+        }
+        Outcome::Derived(derivation) => {
+            assert!(rt; !can_be_met);
+            match derivation.lines.as_slice().last() {
+                Some(line) => assert_eq!(rt; line.clause.len(), 0),
+                None => panic!(rt; "no lines"),
+            }
+        }
+        outcome => panic!(rt; "{outcome:?}"),
+    }
+    Ok(())
+}
+
+#[test]
+fn few_random_clauses_are_met(rt: HostRuntime) -> Result<(), NoMemory> {
+    assert_random(&rt, rt.alloc(), 60, true)
+}
+
+#[test]
+fn many_random_clauses_are_refuted(rt: HostRuntime) -> Result<(), NoMemory> {
+    assert_random(&rt, rt.alloc(), 300, false)
 }
