@@ -35,7 +35,6 @@ range_once : (a n : ℕ) → HasNoRepeat (range_with_len a n)
 range_once a zero = tt
 range_once a (suc n) = ((λ h. let r = range_member (a + 1) n a h in let low = r.0 in omega (arith, low)), range_once (a + 1) n)
 
--- the labels of the shares of a bit of a secret of width 1
 share_range : (first a n : ℕ) → map (λ i. first + i * 1 + 0) (range_with_len a n) ≡ range_with_len (first + a) n
 share_range first a zero = refl
 share_range first a (suc n) =
@@ -122,67 +121,88 @@ each_more P xs y each last x h = go (Contains-append_cases xs (y ∷ []) x h)
     go (inl i) = each x i
     go (inr i) = new (Contains-cases y x [] i)
 
--- the labels with those of one more mask, and of one more secret
-with_mask_labels : (table : LabelTable) (name : List ℕ) → AreBelow (declared_labels table) table.declared
-    → AreBelow (declared_labels (record table { masks = table.masks ++ record { name = name; width = 1; first = table.declared } ∷ [] })) (table.declared + 1)
-with_mask_labels table name are =
-    let xs = flat_map (λ (ls : List ℕ). ls) (secret_labels table.secrets) in
-    let ys = flat_map mask_labels table.masks in
-    let before : AreBelow (xs ++ ys ++ []) table.declared = subst (λ (ls : List ℕ). AreBelow ls table.declared) (sym (append-nil (xs ++ ys))) are in
-    let after : AreBelow (xs ++ ys ++ range_with_len table.declared 1 ++ []) (table.declared + 1) = below_more (xs ++ ys) [] table.declared 1 before in
-    let m : MaskPlan = record { name = name; width = 1; first = table.declared } in
-    let pushed : flat_map mask_labels (table.masks ++ m ∷ []) ≡ ys ++ range_with_len table.declared 1 = flat_map-append mask_labels table.masks (m ∷ []) ∙ ap (λ (ls : List ℕ). ys ++ ls) (append-nil (range_with_len table.declared 1)) in
-    let same : xs ++ ys ++ range_with_len table.declared 1 ++ [] ≡ xs ++ flat_map mask_labels (table.masks ++ m ∷ []) =
-    append-nil (xs ++ ys ++ range_with_len table.declared 1) ∙ append_assoc xs ys (range_with_len table.declared 1) ∙ ap (λ (ls : List ℕ). xs ++ ls) (sym pushed) in
-    subst (λ (ls : List ℕ). AreBelow ls (table.declared + 1)) same after
+-- a mask and a secret of one bit, with the next labels of a table
+abbrev pub next_mask : LabelTable → List ℕ → MaskPlan
+next_mask table name = record { name = name; width = 1; first = table.declared }
 
-with_secret_labels : (table : LabelTable) (name : List ℕ) (shares : ℕ) → AreBelow (declared_labels table) table.declared
-    → AreBelow (declared_labels (record table { secrets = table.secrets ++ record { name = name; width = 1; shares = shares; first = table.declared } ∷ [] })) (table.declared + shares)
-with_secret_labels table name shares are =
-    let xs = flat_map (λ (ls : List ℕ). ls) (secret_labels table.secrets) in
-    let ys = flat_map mask_labels table.masks in
-    let after : AreBelow (xs ++ range_with_len table.declared shares ++ ys) (table.declared + shares) = below_more xs ys table.declared shares are in
-    let s : SecretPlan = record { name = name; width = 1; shares = shares; first = table.declared } in
-    let zero_more : table.declared + 0 ≡ table.declared = omega arith in
-    let own : share_labels s 0 ++ [] ≡ range_with_len table.declared shares = append-nil (share_labels s 0) ∙ share_range table.declared 0 shares ∙ ap (λ a. range_with_len a shares) zero_more in
-    let rows : secret_labels (table.secrets ++ s ∷ []) ≡ secret_labels table.secrets ++ share_labels s 0 ∷ [] = flat_map-append (λ (t : SecretPlan). map (share_labels t) (range_with_len 0 t.width)) table.secrets (s ∷ []) in
-    let pushed : flat_map (λ (ls : List ℕ). ls) (secret_labels (table.secrets ++ s ∷ [])) ≡ xs ++ range_with_len table.declared shares =
-    ap (flat_map (λ (ls : List ℕ). ls)) rows ∙ flat_map-append (λ (ls : List ℕ). ls) (secret_labels table.secrets) (share_labels s 0 ∷ []) ∙ ap (λ (ls : List ℕ). xs ++ ls) own in
-    subst (λ (ls : List ℕ). AreBelow (ls ++ ys) (table.declared + shares)) (sym pushed) after
+abbrev pub next_secret : LabelTable → List ℕ → ℕ → SecretPlan
+next_secret table name shares = record { name = name; width = 1; shares = shares; first = table.declared }
 
--- a table with one more mask, of the next label
+abbrev with_mask : LabelTable → List ℕ → LabelTable
+with_mask table name = record table { masks = table.masks ++ next_mask table name ∷ []; declared = table.declared + 1 }
+
+abbrev with_secret : LabelTable → List ℕ → ℕ → LabelTable
+with_secret table name shares =
+    record table { secrets = table.secrets ++ next_secret table name shares ∷ []; declared = table.declared + shares }
+
+abbrev all_of : List (List ℕ) → List ℕ
+all_of lists = flat_map (λ (ls : List ℕ). ls) lists
+
+mask_below : (table : LabelTable) (name : List ℕ) → AreBelow (declared_labels table) table.declared
+    → AreBelow (declared_labels (with_mask table name)) (table.declared + 1)
+mask_below table name are =
+    let xs = all_of (secret_labels table.secrets) in
+    let ys = flat_map mask_labels table.masks in
+    let ns = range_with_len table.declared 1 in
+    let before = subst (λ (ls : List ℕ). AreBelow ls table.declared) (sym (append-nil (xs ++ ys))) are in
+    let pushed : flat_map mask_labels (with_mask table name).masks ≡ ys ++ ns =
+    flat_map-append mask_labels table.masks (next_mask table name ∷ []) ∙ ap (λ (ls : List ℕ). ys ++ ls) (append-nil ns) in
+    let same : xs ++ ys ++ ns ++ [] ≡ xs ++ flat_map mask_labels (with_mask table name).masks =
+    append-nil (xs ++ ys ++ ns) ∙ append_assoc xs ys ns ∙ ap (λ (ls : List ℕ). xs ++ ls) (sym pushed) in
+    subst (λ (ls : List ℕ). AreBelow ls (table.declared + 1)) same (below_more (xs ++ ys) [] table.declared 1 before)
+
+-- the labels of the shares of a secret of one bit
+shares_range : (table : LabelTable) (name : List ℕ) (shares : ℕ)
+    → share_labels (next_secret table name shares) 0 ≡ range_with_len table.declared shares
+shares_range table name shares =
+    let first : table.declared + 0 ≡ table.declared = omega arith in
+    share_range table.declared 0 shares ∙ ap (λ a. range_with_len a shares) first
+
+secret_below : (table : LabelTable) (name : List ℕ) (shares : ℕ) → AreBelow (declared_labels table) table.declared
+    → AreBelow (declared_labels (with_secret table name shares)) (table.declared + shares)
+secret_below table name shares are =
+    let xs = all_of (secret_labels table.secrets) in
+    let ys = flat_map mask_labels table.masks in
+    let ns = range_with_len table.declared shares in
+    let s = next_secret table name shares in
+    let own : share_labels s 0 ++ [] ≡ ns = append-nil (share_labels s 0) ∙ shares_range table name shares in
+    let bits : secret_labels (table.secrets ++ s ∷ []) ≡ secret_labels table.secrets ++ share_labels s 0 ∷ [] =
+    flat_map-append (λ (t : SecretPlan). map (share_labels t) (range_with_len 0 t.width)) table.secrets (s ∷ []) in
+    let pushed : all_of (secret_labels (table.secrets ++ s ∷ [])) ≡ xs ++ ns =
+    ap all_of bits ∙ flat_map-append (λ (ls : List ℕ). ls) (secret_labels table.secrets) (share_labels s 0 ∷ [])
+    ∙ ap (λ (ls : List ℕ). xs ++ ls) own in
+    subst (λ (ls : List ℕ). AreBelow (ls ++ ys) (table.declared + shares)) (sym pushed) (below_more xs ys table.declared shares are)
+
+-- a table with one more mask of the next label
 pub one_more_mask : (old new : LabelTable) (name : List ℕ) → IsLabelTable old → new.secrets ≡ old.secrets
-    → new.masks ≡ old.masks ++ record { name = name; width = 1; first = old.declared } ∷ [] → new.fresh ≡ old.fresh
-    → new.declared ≡ old.declared + 1 → new.per_cycle ≡ old.per_cycle → IsLabelTable new
+    → new.masks ≡ old.masks ++ next_mask old name ∷ [] → new.fresh ≡ old.fresh → new.declared ≡ old.declared + 1
+    → new.per_cycle ≡ old.per_cycle → IsLabelTable new
 one_more_mask old new name is secrets masks fresh declared per_cycle =
-    subst IsLabelTable same (record {
+    let same : new ≡ with_mask old name =
+    λ i. record { secrets = secrets i; masks = masks i; fresh = fresh i; declared = declared i; per_cycle = per_cycle i } in
+    let labels = mask_below old name (table_labels old is) in
+    subst IsLabelTable (sym same) (record {
       wide = is.wide;
       shared = is.shared;
-      mask_wide = each_more (λ (m : MaskPlan). 0 < m.width) old.masks mask is.mask_wide (omega arith);
+      mask_wide = each_more (λ (m : MaskPlan). 0 < m.width) old.masks (next_mask old name) is.mask_wide (omega arith);
       fresh_wide = is.fresh_wide;
       once = labels.once;
       each = labels.each;
       fresh_once = is.fresh_once;
       fresh_each = is.fresh_each;
     })
-  where
-    mask : MaskPlan
-    mask = record { name = name; width = 1; first = old.declared }
-
-    labels : AreBelow (declared_labels (record old { masks = old.masks ++ record { name = name; width = 1; first = old.declared } ∷ [] })) (old.declared + 1)
-    labels = with_mask_labels old name (table_labels old is)
-
-    same : record old { masks = old.masks ++ record { name = name; width = 1; first = old.declared } ∷ []; declared = old.declared + 1 } ≡ new
-    same = λ i. record { secrets = sym secrets i; masks = sym masks i; fresh = sym fresh i; declared = sym declared i; per_cycle = sym per_cycle i }
 
 -- a table with one more secret of one bit, whose shares have the next labels
 pub one_more_secret : (old new : LabelTable) (name : List ℕ) (shares : ℕ) → 0 < shares → IsLabelTable old
-    → new.secrets ≡ old.secrets ++ record { name = name; width = 1; shares = shares; first = old.declared } ∷ [] → new.masks ≡ old.masks
-    → new.fresh ≡ old.fresh → new.declared ≡ old.declared + shares → new.per_cycle ≡ old.per_cycle → IsLabelTable new
+    → new.secrets ≡ old.secrets ++ next_secret old name shares ∷ [] → new.masks ≡ old.masks → new.fresh ≡ old.fresh
+    → new.declared ≡ old.declared + shares → new.per_cycle ≡ old.per_cycle → IsLabelTable new
 one_more_secret old new name shares some is secrets masks fresh declared per_cycle =
-    subst IsLabelTable same (record {
-      wide = each_more (λ (s : SecretPlan). 0 < s.width) old.secrets secret is.wide (omega arith);
-      shared = each_more (λ (s : SecretPlan). 0 < s.shares) old.secrets secret is.shared some;
+    let same : new ≡ with_secret old name shares =
+    λ i. record { secrets = secrets i; masks = masks i; fresh = fresh i; declared = declared i; per_cycle = per_cycle i } in
+    let labels = secret_below old name shares (table_labels old is) in
+    subst IsLabelTable (sym same) (record {
+      wide = each_more (λ (s : SecretPlan). 0 < s.width) old.secrets (next_secret old name shares) is.wide (omega arith);
+      shared = each_more (λ (s : SecretPlan). 0 < s.shares) old.secrets (next_secret old name shares) is.shared some;
       mask_wide = is.mask_wide;
       fresh_wide = is.fresh_wide;
       once = labels.once;
@@ -190,12 +210,3 @@ one_more_secret old new name shares some is secrets masks fresh declared per_cyc
       fresh_once = is.fresh_once;
       fresh_each = is.fresh_each;
     })
-  where
-    secret : SecretPlan
-    secret = record { name = name; width = 1; shares = shares; first = old.declared }
-
-    labels : AreBelow (declared_labels (record old { secrets = old.secrets ++ record { name = name; width = 1; shares = shares; first = old.declared } ∷ [] })) (old.declared + shares)
-    labels = with_secret_labels old name shares (table_labels old is)
-
-    same : record old { secrets = old.secrets ++ record { name = name; width = 1; shares = shares; first = old.declared } ∷ []; declared = old.declared + shares } ≡ new
-    same = λ i. record { secrets = sym secrets i; masks = sym masks i; fresh = sym fresh i; declared = sym declared i; per_cycle = sym per_cycle i }

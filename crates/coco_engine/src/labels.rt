@@ -128,11 +128,9 @@ fn read_line(
     match words {
         [form, net] if is(form, b"clock") => Ok(clock(reader, flat, net)),
         [form, net, value] if is(form, b"reg") => Ok(register(reader, flat, net, value)),
-        [form, name, width] if is(form, b"mask") && is(width, b"1") => mask(
-            alloc,
-            &mut reader.table,
-            name,
-        ),
+        [form, name, width] if is(form, b"mask") && is(width, b"1") => {
+            mask(alloc, &mut reader.table, name)
+        }
         [form, name, width, shares] if is(form, b"secret") && is(width, b"1") => {
             secret(alloc, &mut reader.table, name, shares)
         }
