@@ -1,3 +1,4 @@
+pub mod LabelCountLemmas
 pub mod Pieces
 pub mod Stops
 pub mod Ranges

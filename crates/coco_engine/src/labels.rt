@@ -1,3 +1,6 @@
+ghost use Rattle.std.specs.Prelude.{◌≡◌, ◌+◌, IfOk, IfSome, OnOk, MatchOption};
+ghost use Rattle.coco_model.specs.Labels.{IsLabelTable};
+
 use coco_base::{Flat, LabelTable, List, MaskPlan, NoMemory, SecretPlan, Start, Text, Wire};
 use std::alloc::Global;
 
@@ -17,9 +20,7 @@ pub struct Labels {
 // what the lines so far say; `leaves` tells for each bit whether a flop drives it
 #[derive(Debug, Drop)]
 struct Reader {
-    secrets: List<SecretPlan>,
-    masks: List<MaskPlan>,
-    declared: u32,
+    table: LabelTable,
     starts: Vec<Start>,
     leaves: Vec<bool>,
     clocked: bool,
@@ -28,7 +29,9 @@ struct Reader {
 /// The labels of a file, or nothing where it is outside the form that is read: each line ends with a line feed, and
 /// its words are separated by single spaces. The lines are `secret NAME 1 SHARES`, `mask NAME 1`, `reg NET VALUE` and,
 /// exactly once, `clock NET`.
-pub fn read_labels(alloc: Global, flat: &Flat, bytes: &[u8]) -> Result<Option<Labels>, NoMemory> {
+pub fn read_labels(alloc: Global, flat: &Flat, bytes: &[u8]) -> Result<Option<Labels>, NoMemory>
+    ensures table { IfOk result (λ o. IfSome o (λ labels. IsLabelTable labels.table)) }
+{
     let mut reader = start(alloc, flat)?;
     let mut rest = bytes;
     'lines: while !rest.is_empty() {
@@ -41,10 +44,12 @@ pub fn read_labels(alloc: Global, flat: &Flat, bytes: &[u8]) -> Result<Option<La
         }
         rest = &rest[end + 1..];
     }
-    finish(alloc, reader)
+    Ok(finish(reader))
 }
 
-fn start(alloc: Global, flat: &Flat) -> Result<Reader, NoMemory> {
+fn start(alloc: Global, flat: &Flat) -> Result<Reader, NoMemory>
+    ensures { IfOk result (λ reader. IsLabelTable reader.table) }
+{
     let bits = flat.bits as usize;
     let mut leaves = flags(alloc, bits)?;
     'flops: for flop in flat.flops.as_slice() {
@@ -53,13 +58,23 @@ fn start(alloc: Global, flat: &Flat) -> Result<Reader, NoMemory> {
         }
     }
     Ok(Reader {
-        secrets: List::new(alloc),
-        masks: List::new(alloc),
-        declared: 0,
+        table: no_labels(alloc),
         starts: publics(alloc, bits)?,
         leaves,
         clocked: false,
     })
+}
+
+fn no_labels(alloc: Global) -> LabelTable
+    ensures { IsLabelTable result }
+{
+    LabelTable {
+        secrets: List::new(alloc),
+        masks: List::new(alloc),
+        fresh: List::new(alloc),
+        declared: 0,
+        per_cycle: 0,
+    }
 }
 
 fn flags(alloc: Global, count: usize) -> Result<Vec<bool>, NoMemory> {
@@ -70,28 +85,23 @@ fn publics(alloc: Global, count: usize) -> Result<Vec<Start>, NoMemory> {
     Ok(vec![in alloc; Start::Public(false); count]?)
 }
 
-fn finish(alloc: Global, reader: Reader) -> Result<Option<Labels>, NoMemory> {
+// the labels of all lines, where one of them was of the clock
+fn finish(reader: Reader) -> Option<Labels>
+    ensures { IfSome result (λ labels. labels.table ≡ reader.table) }
+{
     let Reader {
-        secrets,
-        masks,
-        declared,
+        table,
         starts,
         leaves: _,
         clocked,
     } = reader;
     if !clocked {
-        return Ok(None);
+        return None;
     }
-    Ok(Some(Labels {
-        table: LabelTable {
-            secrets,
-            masks,
-            fresh: List::new(alloc),
-            declared,
-            per_cycle: 0,
-        },
+    Some(Labels {
+        table,
         starts: List::from_vec(starts),
-    }))
+    })
 }
 
 fn words_of<'a>(alloc: Global, line: &'a [u8]) -> Result<Vec<&'a [u8]>, NoMemory> {
@@ -111,13 +121,18 @@ fn read_line(
     reader: &mut Reader,
     flat: &Flat,
     words: &[&[u8]],
-) -> Result<bool, NoMemory> {
+) -> Result<bool, NoMemory>
+    requires { IsLabelTable reader.old.table }
+    ensures { OnOk result (IsLabelTable reader.new.table) }
+{
     match words {
         [form, net] if is(form, b"clock") => Ok(clock(reader, flat, net)),
         [form, net, value] if is(form, b"reg") => Ok(register(reader, flat, net, value)),
-        [form, name, width] if is(form, b"mask") && is(width, b"1") => mask(alloc, reader, name),
+        [form, name, width] if is(form, b"mask") && is(width, b"1") => {
+            mask(alloc, &mut reader.table, name)
+        }
         [form, name, width, shares] if is(form, b"secret") && is(width, b"1") => {
-            secret(alloc, reader, name, shares)
+            secret(alloc, &mut reader.table, name, shares)
         }
         _ => Ok(false),
     }
@@ -127,7 +142,9 @@ fn is(word: &[u8], text: &[u8]) -> bool {
     word == text
 }
 
-fn clock(reader: &mut Reader, flat: &Flat, net: &[u8]) -> bool {
+fn clock(reader: &mut Reader, flat: &Flat, net: &[u8]) -> bool
+    ensures { reader.new.table ≡ reader.old.table }
+{
     if reader.clocked {
         return false;
     }
@@ -163,7 +180,9 @@ fn net_bit(flat: &Flat, name: &[u8]) -> Option<u32> {
 }
 
 // ties the output of a flop to a label
-fn register(reader: &mut Reader, flat: &Flat, net: &[u8], value: &[u8]) -> bool {
+fn register(reader: &mut Reader, flat: &Flat, net: &[u8], value: &[u8]) -> bool
+    ensures { reader.new.table ≡ reader.old.table }
+{
     let Some(label) = label_of(reader, value) else {
         return false;
     };
@@ -186,9 +205,9 @@ fn register(reader: &mut Reader, flat: &Flat, net: &[u8], value: &[u8]) -> bool 
 // the label of a value: a share `NAME.I` of a secret, or a mask `NAME`
 fn label_of(reader: &Reader, value: &[u8]) -> Option<u32> {
     match value.iter().position(|byte| *byte == b'.') {
-        None => mask_label(reader.masks.as_slice(), value),
+        None => mask_label(reader.table.masks.as_slice(), value),
         Some(dot) => share_label(
-            reader.secrets.as_slice(),
+            reader.table.secrets.as_slice(),
             &value[..dot],
             number(&value[dot + 1..])?,
         ),
@@ -225,13 +244,13 @@ fn is_name(name: &[u8]) -> bool {
     }
 }
 
-fn is_declared(reader: &Reader, name: &[u8]) -> bool {
-    reader
+fn is_declared(table: &LabelTable, name: &[u8]) -> bool {
+    table
         .secrets
         .as_slice()
         .iter()
         .any(|secret| secret.name.as_bytes() == name)
-        || reader
+        || table
             .masks
             .as_slice()
             .iter()
@@ -258,14 +277,21 @@ fn number(digits: &[u8]) -> Option<u32> {
 // takes labels of a new name, and gives the first of them and the name
 fn declare(
     alloc: Global,
-    reader: &mut Reader,
+    table: &mut LabelTable,
     name: &[u8],
     count: u32,
-) -> Result<Option<(Text, u32)>, NoMemory> {
-    if !is_name(name) || is_declared(reader, name) {
+) -> Result<Option<(Text, u32)>, NoMemory>
+    ensures secrets { table.new.secrets ≡ table.old.secrets }
+    ensures masks { table.new.masks ≡ table.old.masks }
+    ensures fresh { table.new.fresh ≡ table.old.fresh }
+    ensures per_cycle { table.new.per_cycle ≡ table.old.per_cycle }
+    ensures declared { IfOk result (λ o. MatchOption o (table.new.declared ≡ table.old.declared) (λ _. table.new.declared ≡ table.old.declared + count)) }
+    ensures first { IfOk result (λ o. IfSome o (λ named. named.1 ≡ table.old.declared)) }
+{
+    if !is_name(name) || is_declared(table, name) {
         return Ok(None);
     }
-    let first = reader.declared;
+    let first = table.declared;
     let declared = first.saturating_add(count);
     if MOST_LABELS < declared {
         return Ok(None);
@@ -274,15 +300,18 @@ fn declare(
         return Ok(None);
     };
     let name = Text::of(alloc, text)?;
-    reader.declared = declared;
+    table.declared = declared;
     Ok(Some((name, first)))
 }
 
-fn mask(alloc: Global, reader: &mut Reader, name: &[u8]) -> Result<bool, NoMemory> {
-    let Some((name, first)) = declare(alloc, reader, name, 1)? else {
+fn mask(alloc: Global, table: &mut LabelTable, name: &[u8]) -> Result<bool, NoMemory>
+    requires { IsLabelTable table.old }
+    ensures { OnOk result (IsLabelTable table.new) }
+{
+    let Some((name, first)) = declare(alloc, table, name, 1)? else {
         return Ok(false);
     };
-    reader.masks.push(MaskPlan {
+    table.masks.push(MaskPlan {
         name,
         width: 1,
         first,
@@ -292,20 +321,23 @@ fn mask(alloc: Global, reader: &mut Reader, name: &[u8]) -> Result<bool, NoMemor
 
 fn secret(
     alloc: Global,
-    reader: &mut Reader,
+    table: &mut LabelTable,
     name: &[u8],
     shares: &[u8],
-) -> Result<bool, NoMemory> {
+) -> Result<bool, NoMemory>
+    requires { IsLabelTable table.old }
+    ensures { OnOk result (IsLabelTable table.new) }
+{
     let Some(shares) = number(shares) else {
         return Ok(false);
     };
     if shares < 1 || MOST_SHARES < shares {
         return Ok(false);
     }
-    let Some((name, first)) = declare(alloc, reader, name, shares)? else {
+    let Some((name, first)) = declare(alloc, table, name, shares)? else {
         return Ok(false);
     };
-    reader.secrets.push(SecretPlan {
+    table.secrets.push(SecretPlan {
         name,
         width: 1,
         shares,
