@@ -10,8 +10,11 @@ use Rattle.coco_engine.specs.Text.{line_of}
 use Rattle.coco_engine.specs.Words.{Command}
 use Rattle.coco_base.specs.declared.netlist.Flat.{Flat}
 use Rattle.coco_engine.specs.Reports.{accepted_text, rejected_text}
-use Rattle.coco_base.specs.declared.labels.LabelTable.{LabelTable}
-use Rattle.coco_engine.specs.declared.leak.Leak.{Leak}
+use Rattle.coco_engine.specs.declared.labels.Labels.{Labels}
+use Rattle.coco_engine.specs.Setups.{setup_of}
+use Rattle.coco_model.specs.Secure.{IsWidelySecure}
+use Rattle.wide_cones.specs.Leaks.{IsFirstLeak}
+use Rattle.wide_cones.specs.declared.leak.Leak.{Leak}
 use Rattle.coco_engine.specs.declared.refusal.Refusal.{Refusal}
 use Rattle.coco_engine.specs.declared.refusal.Refusal.TheVariants.{Long, NotBuilt}
 use Rattle.coco_engine.specs.declared.reading.ReadStop.{ReadStop}
@@ -21,10 +24,24 @@ use Rattle.netlist_json.specs.Netlist.{netlist_from}
 abbrev pub fault_line : List ℕ → List ℕ
 fault_line name = line_of (codes "read fault ") name (codes "\n")
 
+-- the report of an accepted run: single probes observe the same whatever the secrets are
+pub record AcceptsFlat (c : Command) (flat : Flat) (text : List ℕ) : Type 0 where
+  pub labels : Labels
+  pub secure : IsWidelySecure flat (setup_of flat labels) c.cycles 1
+  pub written : text ≡ accepted_text c flat labels.table
+
+-- the report of a rejected run: a probe whose structural cone holds all shares of a secret bit, the first one
+pub record RejectsFlat (c : Command) (flat : Flat) (text : List ℕ) : Type 0 where
+  pub labels : Labels
+  pub leak : Leak
+  pub first : IsFirstLeak flat (setup_of flat labels) c.cycles leak
+  pub leaves : List ℕ
+  pub written : text ≡ rejected_text c flat labels.table leak leaves
+
 -- this text goes with this status, where the netlist is read as this one
 abbrev pub FlatAnswers : Command → Flat → Status → List ℕ → Type 0
-FlatAnswers c flat Accepted text = (table : LabelTable) × (text ≡ accepted_text c flat table)
-FlatAnswers c flat Rejected text = (table : LabelTable) × ((leak : Leak) × ((leaves : List ℕ) × (text ≡ rejected_text c flat table leak leaves)))
+FlatAnswers c flat Accepted text = AcceptsFlat c flat text
+FlatAnswers c flat Rejected text = RejectsFlat c flat text
 FlatAnswers c flat Undecided text = ⊥
 FlatAnswers c flat Refused text = text ≡ refusal_line (NotBuilt c.labels)
 FlatAnswers c flat ReadFault text = ⊥

@@ -6,13 +6,13 @@ use Rattle.coco_base.specs.declared.labels.SecretPlan.{SecretPlan}
 use Rattle.coco_base.specs.declared.netlist.Flat.{Flat}
 use Rattle.coco_engine.specs.Names.{bit_text, driver_of, name_of_bit}
 use Rattle.coco_engine.specs.Text.{printed}
-use Rattle.coco_engine.specs.declared.leak.Leak.{Leak}
+use Rattle.wide_cones.specs.declared.leak.Leak.{Leak}
 
 abbrev pub name_text : Flat → ℕ → List ℕ
 name_text flat bit = bit_text bit (name_of_bit flat bit)
 
 unfoldable pub probe_line : Flat → Leak → List ℕ
-probe_line flat leak = codes "probe " ++ name_text flat leak.bit ++ codes " gate " ++ printed (driver_of flat.cells flat.flops leak.bit) ++ codes " cycle " ++ decimal leak.cycle ++ codes " pc - line -\n"
+probe_line flat leak = codes "probe " ++ name_text flat leak.probe.bit ++ codes " gate " ++ printed (driver_of flat.cells flat.flops leak.probe.bit) ++ codes " cycle " ++ decimal leak.probe.cycle ++ codes " pc - line -\n"
 
 unfoldable pub sees_line : Flat → ℕ → ℕ → List ℕ
 sees_line flat cycle leaf = codes "sees " ++ name_text flat leaf ++ codes " cycle " ++ decimal cycle ++ codes "\n"
@@ -40,4 +40,4 @@ set_text (Some secret) = set_line secret
 
 -- the probe, each pair of leaf and cycle that it shows, and the shares of the secret bit
 unfoldable pub finding_text : Flat → List SecretPlan → Leak → List ℕ → List ℕ
-finding_text flat secrets leak leaves = probe_line flat leak ++ seen_text flat leaves leak.cycle ++ set_text (slice_get secrets leak.secret)
+finding_text flat secrets leak leaves = probe_line flat leak ++ seen_text flat leaves leak.probe.cycle ++ set_text (slice_get secrets leak.secret)

@@ -5,6 +5,7 @@ pub mod Names
 pub mod Refusals
 pub mod Reports
 pub mod Requests
+pub mod Setups
 pub mod Shown
 pub mod Text
 pub mod Words

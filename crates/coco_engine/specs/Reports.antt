@@ -5,7 +5,7 @@ use Rattle.coco_base.specs.declared.labels.LabelTable.{LabelTable}
 use Rattle.coco_base.specs.declared.netlist.Flat.{Flat}
 use Rattle.coco_engine.specs.Findings.{finding_text}
 use Rattle.coco_engine.specs.Words.{Command}
-use Rattle.coco_engine.specs.declared.leak.Leak.{Leak}
+use Rattle.wide_cones.specs.declared.leak.Leak.{Leak}
 
 -- a line of a word and a number
 abbrev pub count_line : List ℕ → ℕ → List ℕ

@@ -1,5 +1,6 @@
 ghost use Rattle.std.specs.Prelude.{◌≡◌, ◌+◌, IfOk, IfSome, OnOk, MatchOption};
 ghost use Rattle.coco_model.specs.Labels.{IsLabelTable};
+ghost use Rattle.coco_engine.specs.Setups.{only_bit, port_bit};
 
 use coco_base::{Flat, LabelTable, List, MaskPlan, NoMemory, SecretPlan, Start, Text, Wire};
 use std::alloc::Global;
@@ -156,14 +157,18 @@ fn clock(reader: &mut Reader, flat: &Flat, net: &[u8]) -> bool
 }
 
 /// The bit of the one port of a netlist.
-pub fn clock_bit(flat: &Flat) -> Option<u32> {
+pub fn clock_bit(flat: &Flat) -> Option<u32>
+    ensures { result ≡ port_bit flat.now.ports }
+{
     match flat.ports.as_slice() {
         [port] => only_bit(port.wires.as_slice()),
         _ => None,
     }
 }
 
-fn only_bit(wires: &[Wire]) -> Option<u32> {
+fn only_bit(wires: &[Wire]) -> Option<u32>
+    ensures { result ≡ only_bit wires.now }
+{
     match wires {
         [Wire::Bit(bit)] => Some(*bit),
         _ => None,

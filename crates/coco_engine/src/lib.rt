@@ -1,14 +1,14 @@
 //! The top call of Coco: from the bytes of a netlist and a label file to a report.
 #![tactic(auto)]
 
-mod cones;
 mod labels;
-mod leak;
+mod leaves;
 mod names;
 mod reading;
 mod refusal;
 mod report;
 mod run;
+mod setup;
 mod text;
 mod words;
 mod writing;

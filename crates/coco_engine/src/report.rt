@@ -7,12 +7,12 @@ ghost use Rattle.coco_engine.specs.Requests.{shown_command};
 ghost use Rattle.coco_engine.specs.Shown.{shown_name};
 ghost use Rattle.coco_engine.specs.Text.{printed};
 
-use crate::leak::Leak;
 use crate::names::{Named, driver, name_of};
 use crate::text::{add, copied, shown};
 use crate::words::Request;
 use coco_base::{Flat, LabelTable, NoMemory, SecretPlan};
 use std::alloc::Global;
+use wide_cones::Leak;
 
 fn add_number(text: &mut Vec<u8>, alloc: Global, number: u64) -> Result<(), NoMemory>
     ensures { OnOk result (text.new.items ≡ text.old.items ++ decimal number) }
@@ -134,11 +134,11 @@ fn add_probe(text: &mut Vec<u8>, alloc: Global, flat: &Flat, leak: &Leak) -> Res
     ensures { OnOk result (text.new.items ≡ text.old.items ++ probe_line flat.now leak.now) }
 {
     add(text, b"probe ")?;
-    add_bit(text, alloc, flat, leak.bit)?;
+    add_bit(text, alloc, flat, leak.probe.bit)?;
     add(text, b" gate ")?;
-    add_shown(text, alloc, driver(flat, leak.bit))?;
+    add_shown(text, alloc, driver(flat, leak.probe.bit))?;
     add(text, b" cycle ")?;
-    add_number(text, alloc, u64::from(leak.cycle))?;
+    add_number(text, alloc, u64::from(leak.probe.cycle))?;
     add(text, b" pc - line -\n")
 }
 
@@ -245,6 +245,6 @@ fn add_finding(
     ensures { OnOk result (text.new.items ≡ text.old.items ++ finding_text flat.now secrets.now leak.now leaves.now) }
 {
     add_probe(text, alloc, flat, leak)?;
-    add_cycles(text, alloc, flat, leak.cycle, leaves)?;
+    add_cycles(text, alloc, flat, leak.probe.cycle, leaves)?;
     add_set_at(text, alloc, secrets, leak.secret)
 }

@@ -1,22 +1,27 @@
 ghost use Rattle.std.specs.Prelude.{◌≡◌, ◌↔◌, ◌≤◌, IfOk, IfSome, None, length};
 ghost use Rattle.coco_base.specs.Causes.{Rose};
+ghost use Rattle.coco_model.specs.Labels.{IsLabelTable};
+ghost use Rattle.netlist_facts.specs.Laws.{IsBuilt};
 ghost use Rattle.coco_engine.specs.Answers.{Answers, FlatAnswers, Leaves, MayWrite, StopAnswers};
 ghost use Rattle.coco_engine.specs.Refusals.{file_limit, refusal_line};
 ghost use Rattle.coco_engine.specs.Requests.{shown_command};
 ghost use Rattle.coco_engine.specs.Words.{command, texts};
 
-use crate::cones::reached;
 use crate::labels::{Labels, read_labels};
-use crate::leak::first_leak;
+use crate::leaves::reached;
 use crate::reading::{ReadStop, read_whole};
 use crate::refusal::{self, Refusal};
 use crate::report;
+use crate::setup::setup_of;
 use crate::text::line;
 use crate::words::{Request, read_words};
 use crate::writing::write_whole;
 use coco_base::{Failed, Flat, NoMemory, Shelf, Sink, Status, Text};
+use netlist_facts::built_law;
 use netlist_json::{NetFault, read_netlist};
 use std::alloc::Global;
+use wide_cones::first_leak;
+use wide_laws::hidden_shares_law;
 
 /// What a call writes, and the status that goes with it.
 #[derive(Debug, Drop)]
@@ -48,24 +53,28 @@ fn verdict(
     alloc: Global,
     request: &Request,
     flat: &Flat,
-    labels: &Labels,
+    labels: Labels,
 ) -> Result<Reply, NoMemory>
+    requires built { IsBuilt flat.now }
+    requires table { IsLabelTable labels.table }
     ensures { IfOk result (λ r. FlatAnswers (shown_command request.now) flat.now r.status r.text.items) }
 {
-    let Some(leak) = first_leak(alloc, flat, labels, request.cycles)? else {
+    let setup = setup_of(alloc, flat, labels);
+    let Some(leak) = first_leak(alloc, flat, &setup, request.cycles)? else {
+        hidden_shares_law();
         return Ok(Reply {
             status: Status::Accepted,
-            text: report::accepted(alloc, request, flat, &labels.table)?,
+            text: report::accepted(alloc, request, flat, &setup.table)?,
         });
     };
-    let leaves = reached(alloc, flat, leak.bit)?;
+    let leaves = reached(alloc, flat, leak.probe.bit)?;
     Ok(Reply {
         status: Status::Rejected,
         text: report::rejected(
             alloc,
             request,
             flat,
-            &labels.table,
+            &setup.table,
             &leak,
             leaves.as_slice(),
         )?,
@@ -78,10 +87,11 @@ fn judged_flat(
     flat: &Flat,
     labels: &[u8],
 ) -> Result<Reply, NoMemory>
+    requires { IsBuilt flat.now }
     ensures { IfOk result (λ r. FlatAnswers (shown_command request.now) flat.now r.status r.text.items) }
 {
     match read_labels(alloc, flat, labels)? {
-        Some(labels) => verdict(alloc, request, flat, &labels),
+        Some(labels) => verdict(alloc, request, flat, labels),
         None => not_built(alloc, request.labels),
     }
 }
@@ -97,6 +107,7 @@ fn judged(
     requires labels_fit { length labels.now ≤ file_limit }
     ensures { IfOk result (λ r. Answers (shown_command request.now) netlist.now labels.now r.status r.text.items) }
 {
+    built_law();
     match read_netlist(alloc, netlist) {
         Ok(flat) => judged_flat(alloc, request, &flat, labels),
         Err(NetFault::NotJson) => refused(alloc, &Refusal::NotJson),
