@@ -1,3 +1,5 @@
+pub mod LabelLines
+pub mod LabelNumbers
 pub mod Pieces
-pub mod Stops
 pub mod Ranges
+pub mod Stops
