@@ -1,5 +1,8 @@
 pub mod LabelCountLemmas
+pub mod LabelLines
+pub mod LabelNumbers
+pub mod LabelTables
 pub mod Pieces
-pub mod Stops
 pub mod Ranges
 pub mod SetupLemmas
+pub mod Stops

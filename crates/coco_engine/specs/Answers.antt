@@ -10,7 +10,9 @@ use Rattle.coco_engine.specs.Text.{line_of}
 use Rattle.coco_engine.specs.Words.{Command}
 use Rattle.coco_base.specs.declared.netlist.Flat.{Flat}
 use Rattle.coco_engine.specs.Reports.{accepted_text, rejected_text}
-use Rattle.coco_engine.specs.declared.labels.Labels.{Labels}
+use Rattle.coco_base.specs.declared.setup.Setup.{Setup}
+use Rattle.coco_engine.specs.LabelFile.{labels_from}
+use Rattle.coco_engine.specs.declared.labels.Said.{Said}
 use Rattle.coco_engine.specs.Setups.{setup_of}
 use Rattle.coco_model.specs.Secure.{IsWidelySecure}
 use Rattle.wide_cones.specs.Leaks.{IsFirstLeak}
@@ -24,45 +26,48 @@ use Rattle.netlist_json.specs.Netlist.{netlist_from}
 abbrev pub fault_line : List ℕ → List ℕ
 fault_line name = line_of (codes "read fault ") name (codes "\n")
 
--- the report of an accepted run: single probes observe the same whatever the secrets are
-pub record AcceptsFlat (c : Command) (flat : Flat) (text : List ℕ) : Type 0 where
-  pub labels : Labels
-  pub secure : IsWidelySecure flat (setup_of flat labels) c.cycles 1
-  pub written : text ≡ accepted_text c flat labels.table
-
 -- the report of a rejected run: a probe whose structural cone holds all shares of a secret bit, the first one
-pub record RejectsFlat (c : Command) (flat : Flat) (text : List ℕ) : Type 0 where
-  pub labels : Labels
+pub record Rejects (c : Command) (flat : Flat) (setup : Setup) (text : List ℕ) : Type 0 where
   pub leak : Leak
-  pub first : IsFirstLeak flat (setup_of flat labels) c.cycles leak
+  pub first : IsFirstLeak flat setup c.cycles leak
   pub leaves : List ℕ
-  pub written : text ≡ rejected_text c flat labels.table leak leaves
+  pub written : text ≡ rejected_text c flat setup.table leak leaves
 
--- this text goes with this status, where the netlist is read as this one
-abbrev pub FlatAnswers : Command → Flat → Status → List ℕ → Type 0
-FlatAnswers c flat Accepted text = AcceptsFlat c flat text
-FlatAnswers c flat Rejected text = RejectsFlat c flat text
-FlatAnswers c flat Undecided text = ⊥
-FlatAnswers c flat Refused text = text ≡ refusal_line (NotBuilt c.labels)
-FlatAnswers c flat ReadFault text = ⊥
-FlatAnswers c flat WriteFault text = ⊥
-FlatAnswers c flat NoMemory text = ⊥
-FlatAnswers c flat Usage text = ⊥
+-- this text goes with this status for a netlist and a setup: where the run is accepted, single probes observe the same
+-- whatever the secrets are
+abbrev pub SetupAnswers : Command → Flat → Setup → Status → List ℕ → Type 0
+SetupAnswers c flat setup Accepted text = IsWidelySecure flat setup c.cycles 1 × (text ≡ accepted_text c flat setup.table)
+SetupAnswers c flat setup Rejected text = Rejects c flat setup text
+SetupAnswers c flat setup Undecided text = ⊥
+SetupAnswers c flat setup Refused text = ⊥
+SetupAnswers c flat setup ReadFault text = ⊥
+SetupAnswers c flat setup WriteFault text = ⊥
+SetupAnswers c flat setup NoMemory text = ⊥
+SetupAnswers c flat setup Usage text = ⊥
+
+-- the label file is refused where it says nothing, and else the run is judged with what it says
+abbrev pub SaidAnswers : Command → Flat → Option Said → Status → List ℕ → Type 0
+SaidAnswers c flat None status text = (status ≡ Refused) × (text ≡ refusal_line (NotBuilt c.labels))
+SaidAnswers c flat (Some said) status text = SetupAnswers c flat (setup_of flat said) status text
+
+-- this text goes with this status, where the netlist is read as this one, for a label file of these bytes
+abbrev pub FlatAnswers : Command → Flat → List ℕ → Status → List ℕ → Type 0
+FlatAnswers c flat labels status text = SaidAnswers c flat (labels_from flat labels) status text
 
 -- there is a netlist that these bytes are read as, for which the answer is right
-pub record AnswersNetlist (c : Command) (netlist : List ℕ) (status : Status) (text : List ℕ) : Type 0 where
+pub record AnswersNetlist (c : Command) (netlist labels : List ℕ) (status : Status) (text : List ℕ) : Type 0 where
   pub flat : Flat
   pub read : netlist_from netlist ≡ Ok flat
-  pub answer : FlatAnswers c flat status text
+  pub answer : FlatAnswers c flat labels status text
 
-abbrev pub ByRefusal : Command → List ℕ → Status → List ℕ → Option Refusal → Type 0
-ByRefusal c netlist status text None = AnswersNetlist c netlist status text
-ByRefusal c netlist status text (Some refusal) = (status ≡ Refused) × (text ≡ refusal_line refusal)
+abbrev pub ByRefusal : Command → List ℕ → List ℕ → Status → List ℕ → Option Refusal → Type 0
+ByRefusal c netlist labels status text None = AnswersNetlist c netlist labels status text
+ByRefusal c netlist labels status text (Some refusal) = (status ≡ Refused) × (text ≡ refusal_line refusal)
 
 -- this text goes with this status, for files of these bytes: where a file is refused by its length or the netlist by
 -- its bytes, the line of the first such refusal; and else what the netlist's answer is
 abbrev pub Answers : Command → List ℕ → List ℕ → Status → List ℕ → Type 0
-Answers c netlist labels status text = ByRefusal c netlist status text (refusal_of c netlist labels)
+Answers c netlist labels status text = ByRefusal c netlist labels status text (refusal_of c netlist labels)
 
 -- there are bytes of the two files, which the shelf does not contradict, for which the answer is right
 pub record AnswersFiles (told : List ℕ → Option (List ℕ)) (c : Command) (status : Status) (text : List ℕ) : Type 0 where

@@ -1,6 +1,8 @@
 pub mod Answers
 pub mod Files
 pub mod Findings
+pub mod LabelFile
+pub mod LabelRoom
 pub mod Names
 pub mod Refusals
 pub mod Reports

@@ -1,28 +1,16 @@
--- What a run of a netlist with labels needs.
-use Rattle.std.specs.Prelude.{ℕ, List, [], ◌∷◌, Option, Some, None}
+-- What a run of a netlist with the labels of a file needs.
+use Rattle.std.specs.Prelude.{List, []}
+use Rattle.coco_base.specs.declared.labels.LabelTable.{LabelTable}
 use Rattle.coco_base.specs.declared.netlist.Flat.{Flat}
-use Rattle.coco_base.specs.declared.netlist.FlatPort.{FlatPort}
-use Rattle.coco_base.specs.declared.netlist.Wire.{Wire}
-use Rattle.coco_base.specs.declared.netlist.Wire.TheVariants.{Const, Bit}
 use Rattle.coco_base.specs.declared.setup.Setup.{Setup}
-use Rattle.coco_engine.specs.declared.labels.Labels.{Labels}
+use Rattle.coco_base.specs.declared.setup.Start.{Start}
+use Rattle.coco_engine.specs.LabelFile.{port_bit, starts_of, table_of}
+use Rattle.coco_engine.specs.declared.labels.Said.{Said}
 
-abbrev pub only_bit : List Wire → Option ℕ
-only_bit [] = None
-only_bit (Const b ∷ ws) = None
-only_bit (Bit n ∷ []) = Some n
-only_bit (Bit n ∷ w ∷ ws) = None
-
--- the bit of the one port
-abbrev pub port_bit : List FlatPort → Option ℕ
-port_bit [] = None
-port_bit (p ∷ []) = only_bit p.wires
-port_bit (p ∷ q ∷ ps) = None
-
--- the clock, the labels and what each flop starts with, and nothing else
-abbrev pub setup_of : Flat → Labels → Setup
-setup_of flat labels = record {
-  starts = labels.starts;
+-- the clock, labels and what each bit starts with, and nothing else
+abbrev pub setup_with : Flat → LabelTable → List Start → Setup
+setup_with flat table starts = record {
+  starts = starts;
   inputs = [];
   echoes = [];
   memories = [];
@@ -30,6 +18,10 @@ setup_of flat labels = record {
   controls = [];
   pc = [];
   lines = [];
-  table = labels.table;
+  table = table;
   clock = port_bit flat.ports;
 }
+
+-- what a label file says of a netlist
+abbrev pub setup_of : Flat → Said → Setup
+setup_of flat said = setup_with flat (table_of said) (starts_of flat.bits said)

@@ -1,13 +1,13 @@
 ghost use Rattle.std.specs.Prelude.{◌≡◌, ◌↔◌, ◌≤◌, IfOk, IfSome, None, length};
 ghost use Rattle.coco_base.specs.Causes.{Rose};
-ghost use Rattle.coco_model.specs.Labels.{IsLabelTable};
 ghost use Rattle.netlist_facts.specs.Laws.{IsBuilt};
-ghost use Rattle.coco_engine.specs.Answers.{Answers, FlatAnswers, Leaves, MayWrite, StopAnswers};
+ghost use Rattle.wide_cones.specs.Ready.{IsReady};
+ghost use Rattle.coco_engine.specs.Answers.{Answers, FlatAnswers, Leaves, MayWrite, SetupAnswers, StopAnswers};
 ghost use Rattle.coco_engine.specs.Refusals.{file_limit, refusal_line};
 ghost use Rattle.coco_engine.specs.Requests.{shown_command};
 ghost use Rattle.coco_engine.specs.Words.{command, texts};
 
-use crate::labels::{Labels, read_labels};
+use crate::labels::read_labels;
 use crate::leaves::reached;
 use crate::reading::{ReadStop, read_whole};
 use crate::refusal::{self, Refusal};
@@ -16,7 +16,7 @@ use crate::setup::setup_of;
 use crate::text::line;
 use crate::words::{Request, read_words};
 use crate::writing::write_whole;
-use coco_base::{Failed, Flat, NoMemory, Shelf, Sink, Status, Text};
+use coco_base::{Failed, Flat, NoMemory, Setup, Shelf, Sink, Status, Text};
 use netlist_facts::built_law;
 use netlist_json::{NetFault, read_netlist};
 use std::alloc::Global;
@@ -48,19 +48,17 @@ fn not_built(alloc: Global, name: &str) -> Result<Reply, NoMemory>
     refused(alloc, &Refusal::NotBuilt { name })
 }
 
-// the verdict on a netlist with the labels of a file
+// the verdict on a netlist with a setup
 fn verdict(
     alloc: Global,
     request: &Request,
     flat: &Flat,
-    labels: Labels,
+    setup: &Setup,
 ) -> Result<Reply, NoMemory>
-    requires built { IsBuilt flat.now }
-    requires table { IsLabelTable labels.table }
-    ensures { IfOk result (λ r. FlatAnswers (shown_command request.now) flat.now r.status r.text.items) }
+    requires { IsReady flat.now setup.now }
+    ensures { IfOk result (λ r. SetupAnswers (shown_command request.now) flat.now setup.now r.status r.text.items) }
 {
-    let setup = setup_of(alloc, flat, labels);
-    let Some(leak) = first_leak(alloc, flat, &setup, request.cycles)? else {
+    let Some(leak) = first_leak(alloc, flat, setup, request.cycles)? else {
         hidden_shares_law();
         return Ok(Reply {
             status: Status::Accepted,
@@ -88,10 +86,13 @@ fn judged_flat(
     labels: &[u8],
 ) -> Result<Reply, NoMemory>
     requires { IsBuilt flat.now }
-    ensures { IfOk result (λ r. FlatAnswers (shown_command request.now) flat.now r.status r.text.items) }
+    ensures { IfOk result (λ r. FlatAnswers (shown_command request.now) flat.now labels.now r.status r.text.items) }
 {
     match read_labels(alloc, flat, labels)? {
-        Some(labels) => verdict(alloc, request, flat, labels),
+        Some(read) => {
+            let setup = setup_of(alloc, flat, read);
+            verdict(alloc, request, flat, &setup)
+        }
         None => not_built(alloc, request.labels),
     }
 }

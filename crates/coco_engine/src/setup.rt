@@ -1,5 +1,5 @@
 ghost use Rattle.std.specs.Prelude.{◌≡◌};
-ghost use Rattle.coco_engine.specs.Setups.{setup_of};
+ghost use Rattle.coco_engine.specs.Setups.{setup_with};
 
 use crate::labels::{Labels, clock_bit};
 use coco_base::{Flat, List, Setup};
@@ -7,7 +7,7 @@ use std::alloc::Global;
 
 /// The setup of a netlist whose one port is its clock: what each flop starts with and the labels, and nothing else.
 pub fn setup_of(alloc: Global, flat: &Flat, labels: Labels) -> Setup
-    ensures { result ≡ setup_of flat.now labels }
+    ensures { result ≡ setup_with flat.now labels.table labels.starts }
 {
     let Labels { table, starts } = labels;
     Setup {
