@@ -52,26 +52,13 @@ some_piece separator bytes = let size = length-slice_split (λ b. b == separator
 lines_more : (line bytes rest : List ℕ) → pieces 10 bytes ≡ line ∷ pieces 10 rest → lines_of bytes ≡ option_map (λ ls. line ∷ ls) (lines_of rest)
 lines_more line bytes rest e = rw e (complete_more line (pieces 10 rest) (some_piece 10 rest))
 
-say_more : (flat : Flat) (said next : Said) (line : List ℕ) → say flat said (words_of line) ≡ Some next → (o : Option (List (List ℕ))) → option_and_then (say_all flat next) o ≡ option_and_then (say_all flat said) (option_map (λ ls. line ∷ ls) o)
-say_more flat said next line e None = refl
-say_more flat said next line e (Some ls) = rw e refl
-
 say_none : (flat : Flat) (said : Said) (line : List ℕ) → say flat said (words_of line) ≡ None → (o : Option (List (List ℕ))) → None ≡ option_and_then (say_all flat said) (option_map (λ ls. line ∷ ls) o)
 say_none flat said line e None = refl
 say_none flat said line e (Some ls) = rw e refl
 
--- what is said after a line and then after the rest
-pub said_by_line : (flat : Flat) (said next : Said) (line bytes rest : List ℕ) → pieces 10 bytes ≡ line ∷ pieces 10 rest → say flat said (words_of line) ≡ Some next → said_by flat next rest ≡ said_by flat said bytes
-said_by_line flat said next line bytes rest e says = rw (lines_more line bytes rest e) (say_more flat said next line says (lines_of rest))
-
 -- a line that has no form
 pub said_by_other : (flat : Flat) (said : Said) (line bytes rest : List ℕ) → pieces 10 bytes ≡ line ∷ pieces 10 rest → say flat said (words_of line) ≡ None → None ≡ said_by flat said bytes
 said_by_other flat said line bytes rest e says = rw (lines_more line bytes rest e) (say_none flat said line says (lines_of rest))
-
--- a last line without a line feed
-pub said_by_open : (flat : Flat) (said : Said) (bytes : List ℕ) → pieces 10 bytes ≡ bytes ∷ [] → 0 < length bytes → None ≡ said_by flat said bytes
-said_by_open flat said [] e some = absurd (omega (arith, some))
-said_by_open flat said (b ∷ bs) e some = rw e refl
 
 -- too few words, and too many
 pub say_few : (flat : Flat) (said : Said) (words : List (List ℕ)) → length words < 2 → None ≡ say flat said words

@@ -3,10 +3,9 @@ use Rattle.std.proofs.Common.{◌≡◌, ◌∙◌, ℕ, ◌+◌, ◌-◌, ◌*�
 use Rattle.std.specs.Option.{option_and_then}
 use Rattle.std.proofs.lemmas.Bool.{cases_lt}
 use Rattle.coco_base.specs.declared.labels.SecretPlan.{SecretPlan}
-use Rattle.coco_engine.specs.LabelFile.{add_secret, capped, share_label, share_of}
+use Rattle.coco_engine.specs.LabelFile.{capped, share_label, share_of}
 use Rattle.coco_engine.specs.LabelRoom.{HasRoom, HaveRoom}
 use Rattle.coco_engine.specs.Words.{number_from}
-use Rattle.coco_engine.specs.declared.labels.Said.{Said}
 
 capped_next : (n k : ℕ) → capped (10 * n + k) ≡ capped (10 * capped n + k)
 capped_next n k = omega arith
@@ -28,20 +27,8 @@ share_label-capped [] room name n = refl
 share_label-capped (s ∷ ss) room name n =
     rw (share_of-capped s (room 0 s (omega arith)) n, share_label-capped ss (λ k d h. room (suc k) d (omega (arith, h))) name n) refl
 
-add_secret-capped : (said : Said) (name : List ℕ) (n : ℕ) → add_secret said name (capped n) ≡ add_secret said name n
-add_secret-capped said name n = elim (cases_lt n 4294967296) [
-  | inl few ↦ let e : capped n ≡ n = omega (arith, few) in rw e refl
-  | inr many ↦ grind (arith, many)
-]
-
 -- the share of a number that was kept
 pub label_of_kept : (ss : List SecretPlan) → HaveRoom ss → (name : List ℕ) (o : Option ℕ) (share : ℕ) → option_map capped o ≡ Some share → share_label ss name share ≡ option_and_then (share_label ss name) o
 label_of_kept ss room name None share kept = grind (arith, kept)
 label_of_kept ss room name (Some n) share kept =
     let e : capped n ≡ share = grind (arith, kept) in rw (← e) (share_label-capped ss room name n)
-
--- a secret with a number of shares that was kept
-pub secret_of_kept : (said : Said) (name : List ℕ) (o : Option ℕ) (shares : ℕ) → option_map capped o ≡ Some shares → add_secret said name shares ≡ option_and_then (add_secret said name) o
-secret_of_kept said name None shares kept = grind (arith, kept)
-secret_of_kept said name (Some n) shares kept =
-    let e : capped n ≡ shares = grind (arith, kept) in rw (← e) (add_secret-capped said name n)
