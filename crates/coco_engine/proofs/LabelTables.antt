@@ -1,10 +1,13 @@
 -- The labels that a file declares are numbered once each.
-use Rattle.std.proofs.Common.{◌≡◌, ℕ, ◌<◌, ◌&&◌, ◌⊎◌, inl, inr, Bool, true, false, List, [], ◌∷◌, Option, Some, None, option_and_then, nat_le, refl, subst, ⊥, absurd, arith, if◌then◌else◌}
+use Rattle.std.proofs.Common.{◌≡◌, ℕ, ◌<◌, ◌↔◌, ◌&&◌, ◌⊎◌, inl, inr, Bool, true, false, List, [], ◌∷◌, Contains, Option, Some, None, option_and_then, nat_le, refl, subst, arith, if◌then◌else◌}
+use Rattle.std.specs.Str.{bytes_eq}
+use Rattle.std.specs.Prelude.{codes}
 use Rattle.std.proofs.lemmas.Bool.{and_parts}
 use Rattle.coco_base.specs.declared.netlist.Flat.{Flat}
 use Rattle.coco_model.specs.Labels.{IsLabelTable}
-use Rattle.coco_engine.proofs.LabelCountLemmas.{no_labels, one_more_mask, one_more_secret}
-use Rattle.coco_engine.specs.LabelFile.{add_mask, add_secret, digits_of, is_new, labels_from, lines_of, most_shares, name_clock, net_bit, nothing_said, said_by, say, say_all, say_four, say_three, say_two, table_of, tie, value_of, pieces, when_clocked, words_of}
+use Rattle.coco_model.proofs.Basics.{Contains-none}
+use Rattle.coco_engine.proofs.LabelCountLemmas.{one_more_mask, one_more_secret}
+use Rattle.coco_engine.specs.LabelFile.{add_mask, add_secret, digits_of, is_new, labels_from, lines_of, most_shares, name_clock, net_bit, nothing_said, said_by, say, say_all, say_three, table_of, tie, value_of, pieces, when_clocked, words_of}
 use Rattle.coco_engine.specs.declared.labels.Said.{Said}
 
 none_some : {X : Type 0} (y : X) → None ≡ Some y → ⊥
@@ -55,7 +58,7 @@ clock_keeps : (flat : Flat) (said next : Said) (net : List ℕ) → Numbers said
 clock_keeps flat said next net is h = subst Numbers (some_same _ next (taken _ _ next h).1) is
 
 three_keeps : (flat : Flat) (said next : Said) (form a b : List ℕ) → Numbers said → say_three flat said form a b ≡ Some next → Numbers next
-three_keeps flat said next form a b is h = go (either _ _ _ next h)
+three_keeps flat said next form a b is h = go (either (bytes_eq form (codes "reg")) _ _ next h)
   where
     tied : option_and_then (λ label. option_and_then (λ bit. tie flat said bit label) (net_bit flat.nets a)) (value_of said (pieces 46 b)) ≡ Some next → Numbers next
     tied e =
@@ -63,9 +66,9 @@ three_keeps flat said next form a b is h = go (either _ _ _ next h)
         let inner = came (λ bit. tie flat said bit outer.from) (net_bit flat.nets a) next outer.gives in
         tie_keeps flat said next inner.from outer.from is inner.gives
 
-    go : (option_and_then (λ label. option_and_then (λ bit. tie flat said bit label) (net_bit flat.nets a)) (value_of said (pieces 46 b)) ≡ Some next) ⊎ (_ ≡ Some next) → Numbers next
+    go : (option_and_then (λ label. option_and_then (λ bit. tie flat said bit label) (net_bit flat.nets a)) (value_of said (pieces 46 b)) ≡ Some next) ⊎ ((if bytes_eq form (codes "mask") && bytes_eq b (codes "1") then add_mask said a else None) ≡ Some next) → Numbers next
     go (inl e) = tied e
-    go (inr e) = mask_keeps said next a is (taken _ _ next e).1
+    go (inr e) = mask_keeps said next a is (taken (bytes_eq form (codes "mask") && bytes_eq b (codes "1")) (add_mask said a) next e).1
 
 say_keeps : (flat : Flat) (said next : Said) (words : List (List ℕ)) → Numbers said → say flat said words ≡ Some next → Numbers next
 say_keeps flat said next [] is h = absurd (none_some next h)
@@ -80,14 +83,33 @@ say_keeps flat said next (a ∷ b ∷ c ∷ d ∷ e ∷ rest) is h = absurd (non
 all_keep : (flat : Flat) (said next : Said) (lines : List (List ℕ)) → Numbers said → say_all flat said lines ≡ Some next → Numbers next
 all_keep flat said next [] is h = subst Numbers (some_same said next h) is
 all_keep flat said next (line ∷ lines) is h =
-    let s = came (λ (then : Said). say_all flat then lines) (say flat said (words_of line)) next h in
+    let s = came (λ (after : Said). say_all flat after lines) (say flat said (words_of line)) next h in
     all_keep flat s.from next lines (say_keeps flat said s.from (words_of line) is s.was) s.gives
 
+none_below : (l : ℕ) → Contains [] l ↔ (l < 0)
+none_below l = ((λ h. absurd (Contains-none l h)), (λ (h : l < 0). absurd (omega (arith, h))))
+
+nothing_numbers : Numbers nothing_said
+nothing_numbers = record {
+  wide = λ s h. absurd (Contains-none s h);
+  shared = λ s h. absurd (Contains-none s h);
+  mask_wide = λ m h. absurd (Contains-none m h);
+  fresh_wide = λ m h. absurd (Contains-none m h);
+  once = tt;
+  each = none_below;
+  fresh_once = tt;
+  fresh_each = none_below;
+}
+
 -- what a label file says is a table that numbers its labels
-pub table_numbers : (flat : Flat) (bytes : List ℕ) (said : Said) → labels_from flat bytes ≡ Some said → IsLabelTable (table_of said)
-table_numbers flat bytes said h =
-    let e : option_and_then when_clocked (said_by flat nothing_said bytes) ≡ Some said = unfold labels_from in h in
+file_keeps : (flat : Flat) (bytes : List ℕ) (said : Said)
+    → option_and_then when_clocked (said_by flat nothing_said bytes) ≡ Some said → IsLabelTable (table_of said)
+file_keeps flat bytes said e =
     let c = came when_clocked (said_by flat nothing_said bytes) said e in
     let all = came (say_all flat nothing_said) (lines_of bytes) c.from c.was in
-    let last = some_same c.from said (taken _ _ said c.gives).1 in
-    subst Numbers last (all_keep flat nothing_said c.from all.from no_labels all.gives)
+    let last = some_same c.from said (taken c.from.clocked (Some c.from) said c.gives).1 in
+    subst Numbers last (all_keep flat nothing_said c.from all.from nothing_numbers all.gives)
+
+pub table_numbers : (flat : Flat) (bytes : List ℕ) (said : Said) → labels_from flat bytes ≡ Some said → IsLabelTable (table_of said)
+unfolding labels_from
+table_numbers = file_keeps

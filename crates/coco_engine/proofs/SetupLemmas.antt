@@ -1,5 +1,5 @@
 -- A setup of a netlist and a label file that are read is one for which cones are computed.
-use Rattle.std.proofs.Common.{◌≡◌, ℕ, List, [], ◌∷◌, ◌++◌, Contains, Option, Some, None, option_to_list, refl, sym, ap, subst, ⊥, absurd, tt}
+use Rattle.std.proofs.Common.{◌≡◌, ℕ, List, [], ◌∷◌, ◌++◌, Contains, Option, Some, None, option_to_list, refl, sym, ap, subst}
 use Rattle.coco_model.proofs.Basics.{Contains-none}
 use Rattle.coco_base.specs.declared.labels.LabelTable.{LabelTable}
 use Rattle.coco_base.specs.declared.netlist.Flat.{Flat}
@@ -7,13 +7,13 @@ use Rattle.coco_base.specs.declared.setup.Setup.{Setup}
 use Rattle.coco_base.specs.declared.setup.Start.{Start}
 use Rattle.coco_base.specs.declared.status.Status.{Status}
 use Rattle.coco_model.specs.Labels.{IsLabelTable}
-use Rattle.coco_model.specs.Netlist.{input_bits, HasNoRepeat}
+use Rattle.coco_model.specs.Netlist.{HasNoRepeat}
 use Rattle.coco_model.specs.Carried.{bound_bits, IsBound}
 use Rattle.netlist_facts.specs.Laws.{IsBuilt}
 use Rattle.wide_cones.specs.Ready.{IsReady}
 use Rattle.coco_engine.proofs.LabelTables.{table_numbers}
 use Rattle.coco_engine.specs.Answers.{SaidAnswers, SetupAnswers}
-use Rattle.coco_engine.specs.LabelFile.{AreLabels, AreSaid, labels_from, only_bit, port_bit, starts_of, table_of}
+use Rattle.coco_engine.specs.LabelFile.{AreLabels, labels_from, only_bit, port_bit, starts_of, table_of}
 use Rattle.coco_engine.specs.Setups.{setup_of, setup_with}
 use Rattle.coco_engine.specs.Words.{Command}
 use Rattle.coco_engine.specs.declared.labels.Labels.{Labels}

@@ -49,12 +49,7 @@ fn not_built(alloc: Global, name: &str) -> Result<Reply, NoMemory>
 }
 
 // the verdict on a netlist with a setup
-fn verdict(
-    alloc: Global,
-    request: &Request,
-    flat: &Flat,
-    setup: &Setup,
-) -> Result<Reply, NoMemory>
+fn verdict(alloc: Global, request: &Request, flat: &Flat, setup: &Setup) -> Result<Reply, NoMemory>
     requires { IsReady flat.now setup.now }
     ensures { IfOk result (λ r. SetupAnswers (shown_command request.now) flat.now setup.now r.status r.text.items) }
 {
@@ -68,14 +63,7 @@ fn verdict(
     let leaves = reached(alloc, flat, leak.probe.bit)?;
     Ok(Reply {
         status: Status::Rejected,
-        text: report::rejected(
-            alloc,
-            request,
-            flat,
-            &setup.table,
-            &leak,
-            leaves.as_slice(),
-        )?,
+        text: report::rejected(alloc, request, flat, &setup.table, &leak, leaves.as_slice())?,
     })
 }
 
