@@ -1,0 +1,10 @@
+pub mod SignFacts
+pub mod TrailFacts
+pub mod StandingFacts
+pub mod PropagationFacts
+pub mod CountFacts
+pub mod MarkFacts
+pub mod AnalysisFacts
+pub mod JumpFacts
+pub mod OutcomeFacts
+pub mod LineCount

@@ -1,0 +1,6 @@
+use Rattle.clause_solver.specs.Trails.{level_start_of}
+use Rattle.clause_solver.specs.Jumps.{IsKept}
+use Rattle.clause_solver.proofs.jump.kept_places.Given as goal
+
+abbrev pub invariant-keeping : goal.invariant-keeping
+invariant-keeping l = IsKept l.trail.lits l.clause l.start l.kept

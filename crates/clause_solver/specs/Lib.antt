@@ -1,0 +1,6 @@
+pub mod Trails
+pub mod Propagation
+pub mod Analysis
+pub mod Jumps
+pub mod Outcomes
+pub mod Laws

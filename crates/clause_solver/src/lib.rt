@@ -1,0 +1,23 @@
+//! A search by learnt clauses for values that meet all clauses of a store. It answers such values, or a derivation of
+//! the empty clause, or as many lines of a derivation as it was given steps.
+//!
+//! Propagation goes over all clauses until it has nothing left to do; then a picker chooses the next variable, which
+//! is set to false. From a clause that is false comes a line of the derivation, at the first point where one literal
+//! alone stands for the last decision, and the search goes on from the level where that line forces a literal.
+#![tactic(auto)]
+
+mod analysis;
+mod filled;
+mod jump;
+pub mod laws;
+mod marks;
+pub mod outcome;
+mod propagate;
+mod search;
+mod solver;
+mod standing;
+mod trail;
+
+pub use laws::{few_lines, none_after_empty};
+pub use outcome::Outcome;
+pub use solver::solve;

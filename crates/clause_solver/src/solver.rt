@@ -1,0 +1,92 @@
+ghost use Rattle.std.specs.Prelude.{◌≡◌, ◌≢◌, ℕ, ◌<◌, ◌≤◌, ◌^◌, [], length, false, All, Contains, MatchBool, IfOk, slice_index_or, unwrap_or};
+ghost use Rattle.clause_store.specs.Signs.{Ascends, sign_of};
+ghost use Rattle.clause_solver.specs.Outcomes.{IsOutcome};
+ghost use Rattle.clause_solver.specs.Propagation.{IsOver};
+
+use crate::analysis::analyze;
+use crate::filled::filled;
+use crate::jump::jump_back;
+use crate::outcome::Outcome;
+use crate::search::search;
+use crate::trail::Trail;
+use clause_store::{Derivation, Line, Store};
+use coco_base::{List, NoMemory};
+use pickers::Picker;
+use std::alloc::Global;
+
+/// Whether some clause is empty.
+fn has_empty(store: &Store) -> bool
+    ensures found { MatchBool result (Contains store.now []) (All (λ c. c ≢ []) store.now) }
+    ensures ascending { All Ascends store.now }
+{
+    'seeking: for id in 0..store.count() {
+        if store.get(id).is_empty() {
+            return true;
+        }
+    }
+    false
+}
+
+/// The values of all variables; one that is not set is false.
+fn values_of(alloc: Global, trail: &Trail) -> Result<List<bool>, NoMemory>
+    ensures len { IfOk result (λ values. length values ≡ trail.now.vars) }
+    ensures values { IfOk result (λ values. (v : ℕ) → v < trail.now.vars → slice_index_or values v false ≡ unwrap_or (sign_of trail.now.lits v) false) }
+{
+    let mut values = List::new(alloc);
+    'valuing: for var in 0..trail.vars() {
+        values.push(trail.value(var).unwrap_or(false))?;
+    }
+    Ok(values)
+}
+
+/// Tells the picker of each variable that an analysis met: those of the line's clause and those that were cut.
+fn bump_all(picker: &mut Box<dyn Picker>, line: &Line) {
+    for lit in line.clause.iter() {
+        picker.bump(lit.var);
+    }
+    for cut in line.cuts.iter() {
+        picker.bump(cut.var);
+    }
+}
+
+/// Searches for values that meet every clause of the store, with at most so many lines of a derivation.
+///
+/// Where nothing is left to propagate, the variable that the picker answers is set to false. The picker is told of
+/// each variable that the analysis of a conflict met, and is dropped at the end. One line counts as one step.
+pub fn solve(
+    alloc: Global,
+    store: &Store,
+    vars: u32,
+    steps: u64,
+    picker: Box<dyn Picker>,
+) -> Result<Outcome, NoMemory>
+    requires range { All (IsOver vars) store.now }
+    requires vars { vars ≤ 2 ^ 30 }
+    requires some { 0 < steps }
+    requires most { steps ≤ 1000000000 }
+    ensures { IfOk result (IsOutcome store.now vars steps) }
+{
+    let mut picker = picker;
+    let mut lines = List::new(alloc);
+    if has_empty(store) {
+        return Ok(Outcome::Derived(Derivation { lines }));
+    }
+    let mut trail = Trail::new(alloc, vars)?;
+    let mut marks = filled(alloc, vars, false)?;
+    'stepping: for _ in 0..steps {
+        match search(&mut trail, store, lines.as_slice(), &mut picker)? {
+            None => return Ok(Outcome::Satisfied(values_of(alloc, &trail)?)),
+            Some(id) => {
+                let line = analyze(alloc, &trail, store, lines.as_slice(), id, &mut marks)?;
+                bump_all(&mut picker, &line);
+                if line.clause.is_empty() {
+                    lines.push(line)?;
+                    return Ok(Outcome::Derived(Derivation { lines }));
+                }
+                jump_back(&mut trail, line.clause.as_slice());
+                lines.push(line)?;
+            }
+        }
+    }
+    Ok(Outcome::Spent(Derivation { lines }))
+}
