@@ -16,6 +16,8 @@ mod propagate;
 mod search;
 mod solver;
 mod standing;
+#[cfg(test)]
+mod tests;
 mod trail;
 
 pub use laws::{few_lines, none_after_empty};
