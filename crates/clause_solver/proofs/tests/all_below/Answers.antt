@@ -1,4 +1,4 @@
-use Rattle.std.proofs.Common.{◌≡◌, ◌<◌, length, arith}
+use Rattle.std.proofs.Common.{◌<◌, length, arith}
 use Rattle.std.proofs.lemmas.Option.{slice_get_within}
 use Rattle.clause_solver.specs.Propagation.{IsOver}
 use Rattle.clause_solver.proofs.PropagationFacts.{all_at}
