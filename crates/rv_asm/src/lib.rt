@@ -1,11 +1,14 @@
 //! Programs for RV32I as images of words, from a file of words.
 #![tactic(auto)]
 
+mod expression;
 mod fault;
 mod image;
 mod lines;
+mod mnemonics;
 mod numbers;
 mod reading;
+mod registers;
 mod tokens;
 mod words;
 
