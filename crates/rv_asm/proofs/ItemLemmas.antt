@@ -4,7 +4,7 @@ use Rattle.rv_asm.specs.Readings.{◌>>=◌, Fails, from_first, items_up_to, wit
 use Rattle.rv_asm.specs.declared.reading.Unread.{Unread}
 use Rattle.rv_asm.specs.declared.reading.Unread.TheVariants.{Memory, Other}
 use Rattle.rv_asm.specs.declared.expression.Half.{Half}
-use Rattle.rv_asm.specs.declared.expression.Half.TheVariants.{High, Low}
+use Rattle.rv_asm.specs.declared.expression.Half.TheVariants.{High}
 use Rattle.rv_asm.specs.Tokens.{mark_at}
 use Rattle.rv_asm.specs.Expressions.{closed_at}
 

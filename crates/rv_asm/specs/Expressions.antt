@@ -1,6 +1,6 @@
 -- Expressions: a number, a name or `.`, and a name or `.` with a number added or taken away, in any number of `%hi( )` and
 -- `%lo( )`.
-use Rattle.std.specs.Prelude.{◌≡◌, ℕ, ℤ, pos, Bool, true, false, not, List, [], ◌∷◌, Option, Some, None, codes, if◌then◌else◌}
+use Rattle.std.specs.Prelude.{ℕ, ℤ, pos, Bool, true, false, List, [], ◌∷◌, Option, Some, None, codes, if◌then◌else◌}
 use Rattle.std.specs.Str.{bytes_eq}
 use Rattle.rv_asm.specs.declared.expression.Half.{Half}
 use Rattle.rv_asm.specs.declared.expression.Half.TheVariants.{High, Low}
@@ -79,3 +79,7 @@ within_halves opened bytes = do
 
 unfoldable pub expr_at : List ℕ → Option (Expr × List ℕ)
 expr_at bytes = let opened = items_at half_at bytes in within_halves opened.0 opened.1
+
+-- the number 0
+abbrev pub nought : Expr
+nought = record { halves = []; sum = alone (Number (Some (pos 0))) }

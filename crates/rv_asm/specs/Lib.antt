@@ -6,3 +6,4 @@ pub mod Numbers
 pub mod Registers
 pub mod Expressions
 pub mod Mnemonics
+pub mod Operands

@@ -2,7 +2,7 @@
 ghost use Rattle.std.specs.Prelude.{◌≡◌, IfOk, Some};
 ghost use Rattle.rv_asm.specs.Readings.{Gives, items_at};
 ghost use Rattle.rv_asm.specs.Registers.{named};
-ghost use Rattle.rv_asm.specs.Expressions.{alone, amount_at, closed_at, expr_at, half_at, halves, sum_at, symbol_at, term_of, within_halves};
+ghost use Rattle.rv_asm.specs.Expressions.{alone, amount_at, closed_at, expr_at, half_at, halves, nought, sum_at, symbol_at, term_of, within_halves};
 
 use crate::numbers::number;
 use crate::reading::Unread;
@@ -48,6 +48,16 @@ pub(crate) fn copied(alloc: Global, name: &[u8]) -> Result<List<u8>, NoMemory>
     ensures { IfOk result (λ list. list ≡ name.now) }
 {
     Ok(List::from_vec(Vec::from_slice(alloc, name)?))
+}
+
+/// The number 0.
+pub(crate) fn nought(alloc: Global) -> Expr
+    ensures { result ≡ nought }
+{
+    Expr {
+        halves: List::new(alloc),
+        sum: alone(Term::Number(Some(0))),
+    }
 }
 
 fn alone(term: Term) -> Sum

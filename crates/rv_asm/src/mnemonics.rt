@@ -291,14 +291,22 @@ fn option_directive(name: &[u8]) -> Option<Form>
 fn directive_of(name: &[u8]) -> Option<Form>
     ensures { result ≡ directive_of name.now }
 {
-    part_directive(name).or(value_directive(name).or(zero_directive(name).or(align_directive(name).or(name_directive(name).or(symbol_directive(name).or(shape_directive(name).or(file_directive(name).or(option_directive(name)))))))))
+    part_directive(name).or(value_directive(name).or(zero_directive(name).or(align_directive(
+        name,
+    ).or(name_directive(name).or(symbol_directive(name).or(shape_directive(name).or(file_directive(
+        name,
+    ).or(option_directive(name)))))))))
 }
 
 #[tactic(auto, unfolding(crate::specs::Mnemonics::mnemonic_of))]
 fn mnemonic_of(name: &[u8]) -> Option<Form>
     ensures { result ≡ mnemonic_of name.now }
 {
-    reg_mnemonic(name).or(imm_mnemonic(name).or(memory_mnemonic(name).or(branch_mnemonic(name).or(zero_mnemonic(name).or(copy_mnemonic(name).or(jump_mnemonic(name).or(value_mnemonic(name).or(system_mnemonic(name)))))))))
+    reg_mnemonic(name).or(imm_mnemonic(name).or(memory_mnemonic(name).or(branch_mnemonic(name).or(
+        zero_mnemonic(name).or(copy_mnemonic(name).or(jump_mnemonic(name).or(value_mnemonic(
+            name,
+        ).or(system_mnemonic(name))))),
+    ))))
 }
 
 /// What a word asks for.

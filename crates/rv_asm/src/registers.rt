@@ -124,7 +124,9 @@ fn high_register(name: &[u8]) -> Option<u8>
 fn register_of(name: &[u8]) -> Option<u8>
     ensures { result ≡ register_of name.now }
 {
-    special_register(name).or(temporary_register(name).or(saved_register(name).or(argument_register(name).or(low_register(name).or(high_register(name))))))
+    special_register(name).or(temporary_register(name).or(saved_register(name).or(argument_register(
+        name,
+    ).or(low_register(name).or(high_register(name))))))
 }
 
 /// A register, with blanks before it.

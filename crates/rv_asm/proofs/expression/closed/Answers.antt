@@ -1,4 +1,3 @@
-use Rattle.rv_asm.specs.Expressions.{closed_at}
 use Rattle.rv_asm.proofs.ItemLemmas.{closed_fails, closed_more}
 use Rattle.rv_asm.proofs.expression.closed.Goals as goal
 
