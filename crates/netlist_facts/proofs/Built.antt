@@ -145,6 +145,9 @@ built_with order m o few once up plain = record {
   range = in_range order m o plain;
   clock = place_of order m.clock.number;
   input = refl;
+  port = port_of order m;
+  ports = refl;
+  wires = refl;
   bits = few;
 }
 
