@@ -1,0 +1,5 @@
+pub mod Orders
+pub mod Plain
+pub mod Drivers
+pub mod Ranges
+pub mod Built

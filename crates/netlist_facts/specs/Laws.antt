@@ -1,0 +1,24 @@
+-- The law of the netlist reader.
+use Rattle.std.specs.Prelude.{◌≡◌, ℕ, ◌≤◌, List, [], ◌∷◌, Ok}
+use Rattle.coco_base.specs.declared.netlist.Flat.{Flat}
+use Rattle.coco_base.specs.declared.netlist.FlatPort.{FlatPort}
+use Rattle.coco_base.specs.declared.netlist.Wire.TheVariants.{Bit}
+use Rattle.coco_model.specs.Netlist.{IsRanked, HasOneDriver, IsInRange, input_bits}
+use Rattle.netlist_json.specs.Netlist.{netlist_from}
+
+-- a circuit without loops, each gate's output with a number above those that the gate reads; no bit has two drivers;
+-- all numbers are in range; the one port is the clock's, of one bit; and there are at most 4,096 bits
+pub record IsBuilt (flat : Flat) : Type 0 where
+  pub ranked : IsRanked flat (λ b. b)
+  pub one : HasOneDriver flat
+  pub range : IsInRange flat
+  pub clock : ℕ
+  pub input : input_bits flat ≡ clock ∷ []
+  pub port : FlatPort
+  pub ports : flat.ports ≡ port ∷ []
+  pub wires : port.wires ≡ Bit clock ∷ []
+  pub bits : flat.bits ≤ 4096
+
+-- each netlist that is read is so built
+abbrev pub BuiltLaw : Type 0
+BuiltLaw = (bytes : List ℕ) (flat : Flat) → netlist_from bytes ≡ Ok flat → IsBuilt flat
