@@ -53,11 +53,7 @@ fn asked(rt: &(impl Env + Files + AllocGlobal)) -> io::Result<Work> {
         "random" => {
             let seed = words.next().unwrap_or(String::new(alloc));
             let vars = number(word.as_str())?;
-            Ok(Work::Solve(held(formula::random(
-                alloc,
-                vars,
-                u64::from(number(seed.as_str())?),
-            ))?))
+            Ok(Work::Solve(held(formula::random(alloc, vars, u64::from(number(seed.as_str())?)))?))
         }
         "formula" => {
             let text = fs::read_to_string(rt, word.as_str())?;
