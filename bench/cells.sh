@@ -3,4 +3,4 @@
 # or `rt run` in crates/coco_bench.
 set -eu
 cd "$(dirname "$0")/.."
-time crates/coco_bench/out/coco_bench 1000000
+time crates/coco_bench/out/coco_bench cells 1000000

@@ -1,27 +1,27 @@
 -- The chain of resolvents that an analysis makes, and the clause that is left at its end.
-use Rattle.std.proofs.Common.{◌≡◌, ◌≢◌, ℕ, suc, zero, ◌+◌, ◌-◌, ◌<◌, ◌≤◌, Bool, true, false, not, eqb, cond, ◌||◌, List, [], ◌∷◌, ◌++◌, Option, Some, None, is_some, length, get_or, take, drop, map, refl, sym, ap, subst, ◌∙◌, ◌⊎◌, inl, inr, arith}
+use Rattle.std.proofs.Common.{◌≡◌, ◌≢◌, ℕ, ◌+◌, ◌-◌, ◌<◌, ◌≤◌, Bool, true, false, not, eqb, cond, ◌||◌, List, [], ◌∷◌, ◌++◌, Option, Some, None, is_some, length, get_or, take, drop, refl, sym, ap, subst, ◌∙◌, inl, inr, arith}
 use Rattle.std.specs.Prelude.{slice_get, slice_index, All, option_map}
 use Rattle.std.specs.Option.{option_or}
 use Rattle.std.proofs.Math.Path.{fun_ext}
 use Rattle.std.proofs.Math.ListN.{set}
 use Rattle.std.proofs.lemmas.Grind.{common_steps}
-use Rattle.std.proofs.lemmas.Bool.{cases_eq, cases_lt, cases_order, cases_Bool, or_cases}
-use Rattle.std.proofs.lemmas.List.{length-map, length-drop, get_or-drop, get_or-set_same, get_or-set_other, get_or_past, get_or_default, take_all, nil_from_length}
-use Rattle.std.proofs.lemmas.Option.{same_Some, slice_get_within, get_or_from_slice_get, slice_get-get_or}
+use Rattle.std.proofs.lemmas.Bool.{cases_eq, cases_lt, or_cases}
+use Rattle.std.proofs.lemmas.List.{get_or-drop, get_or-set_same, get_or-set_other, get_or_past, take_all, nil_from_length}
+use Rattle.std.proofs.lemmas.Option.{same_Some, slice_get-get_or}
 use Rattle.clause_store.specs.declared.lit.Lit.{Lit}
 use Rattle.clause_store.specs.declared.line.Cut.{Cut}
 use Rattle.clause_store.specs.declared.line.Line.{Line}
-use Rattle.clause_store.specs.Signs.{Ascends, Signs, sign_of}
-use Rattle.clause_store.specs.Assignments.{HasTrue, HasTwoOpen, IsClosed, IsClosedFor, IsFalsified, IsUnit}
+use Rattle.clause_store.specs.Signs.{Signs, sign_of}
+use Rattle.clause_store.specs.Assignments.{IsClosedFor, IsFalsified, IsUnit}
 use Rattle.clause_store.specs.Resolvents.{opposite, IsResolvent, LeadsTo}
 use Rattle.clause_store.specs.Derivations.{IsValidLine}
-use Rattle.clause_solver.specs.Trails.{History, IsCoherent, level_start_of}
+use Rattle.clause_solver.specs.Trails.{History, level_start_of}
 use Rattle.clause_solver.specs.Propagation.{IsInRange, IsReason, IsExplained, IsBrokenAt}
-use Rattle.clause_solver.specs.Analysis.{is_marked, marked_signs, flags, trues, marked_from, Covers, IsWalked, IsLearnt, IsAnalyzed, least_of, IsChained}
-use Rattle.clause_solver.proofs.SignFacts.{cases_option, present, is_present, sign_at, sign_present, sign_push_other, sign_same, sign_of-front, sign_of-front_le, sign_of-front_le_none, front_more, slice_get-take, slice_get-front, IsFirstAt, sign_found}
-use Rattle.clause_solver.proofs.PropagationFacts.{at_all, range_at}
+use Rattle.clause_solver.specs.Analysis.{is_marked, marked_signs, flags, marked_from, Covers, IsWalked, IsLearnt, IsAnalyzed, least_of, IsChained}
+use Rattle.clause_solver.proofs.SignFacts.{cases_option, present, is_present, sign_at, sign_present, sign_push_other, sign_same, sign_of-front, sign_of-front_le_none, front_more, slice_get-front, IsFirstAt, sign_found}
+use Rattle.clause_solver.proofs.PropagationFacts.{at_all}
 use Rattle.clause_solver.proofs.CountFacts.{IsFresh, flag_at, length-flags, some_true, none_true, is_counted, second_true, only_true}
-use Rattle.clause_solver.proofs.MarkFacts.{fresh_apart, count_less}
+use Rattle.clause_solver.proofs.MarkFacts.{count_less}
 
 -- one more cut at the end of a chain
 pub leads_more : (clauses : List (List Lit)) (start : Signs) (cuts : List Cut) (now : Signs) (cut : Cut) (clause : List Lit) (after : Signs) → LeadsTo clauses start cuts now → slice_get clauses cut.id ≡ Some clause → IsResolvent cut.var now (sign_of clause) after → LeadsTo clauses start (cuts ++ cut ∷ []) after

@@ -1,19 +1,17 @@
 -- What stays true when a jump goes back and a learnt clause is added.
-use Rattle.std.proofs.Common.{◌≡◌, ◌≢◌, ℕ, suc, zero, ◌+◌, ◌-◌, ◌<◌, ◌≤◌, Bool, true, false, not, eqb, List, [], ◌∷◌, ◌++◌, Option, Some, None, is_some, length, get_or, take, refl, sym, ap, subst, ◌∙◌, ◌⊎◌, inl, inr, arith}
-use Rattle.std.specs.Prelude.{slice_get, slice_index, All}
-use Rattle.std.proofs.lemmas.Grind.{common_steps}
+use Rattle.std.proofs.Common.{◌≡◌, ℕ, ◌+◌, ◌-◌, ◌<◌, ◌≤◌, true, List, [], ◌∷◌, ◌++◌, Some, None, is_some, length, take, refl, sym, ap, subst, ◌∙◌, ◌⊎◌, inl, inr, arith}
+use Rattle.std.specs.Prelude.{slice_get, slice_index}
 use Rattle.std.proofs.lemmas.Bool.{cases_eq, cases_lt}
 use Rattle.std.proofs.lemmas.List.{take-take, length-take-le, get_or-take}
 use Rattle.std.proofs.lemmas.List.Elements.{All-push}
-use Rattle.std.proofs.lemmas.Option.{same_Some, slice_get_within}
 use Rattle.clause_store.specs.declared.lit.Lit.{Lit}
 use Rattle.clause_store.specs.Signs.{sign_of}
-use Rattle.clause_store.specs.Assignments.{HasTrue, HasTwoOpen, IsClosed, IsClosedFor, IsFalsified, IsUnit}
+use Rattle.clause_store.specs.Assignments.{IsClosed, IsClosedFor, IsUnit}
 use Rattle.clause_solver.specs.Trails.{History, IsCoherent, undone, level_start_of}
 use Rattle.clause_solver.specs.Propagation.{IsInRange, IsReason, IsExplained}
-use Rattle.clause_solver.specs.Analysis.{Covers, IsLearnt, IsAnalyzed}
+use Rattle.clause_solver.specs.Analysis.{IsLearnt}
 use Rattle.clause_solver.specs.Jumps.{EndsAt, IsKept, IsKeptLevel}
-use Rattle.clause_solver.proofs.SignFacts.{cases_option, present, is_present, sign_at, sign_present, sign_of-front, sign_of-front_le, sign_of-front_le_none, slice_get-take, slice_get-front, slice_get-left}
+use Rattle.clause_solver.proofs.SignFacts.{sign_present, sign_of-front, sign_of-front_le_none, slice_get-take, slice_get-front, slice_get-left}
 use Rattle.clause_solver.proofs.StandingFacts.{ascends_sign}
 use Rattle.clause_solver.proofs.CountFacts.{IsFresh}
 

@@ -1,27 +1,27 @@
 -- Over n variables there are fewer than 3 to the power n valid and new lines that are not empty: what each says of
 -- the variables is a number below that, and no two of them say the same.
-use Rattle.std.proofs.Common.{◌≡◌, ◌≢◌, ℕ, suc, zero, ◌+◌, ◌-◌, ◌*◌, ◌<◌, ◌≤◌, ◌^◌, Bool, true, false, not, eqb, ◌||◌, List, [], ◌∷◌, ◌++◌, Option, Some, None, is_some, length, get_or, take, drop, map, refl, sym, ap, subst, ◌∙◌, ◌⊎◌, inl, inr, arith, append_assoc}
-use Rattle.std.specs.Prelude.{slice_get, All, Contains, option_map}
+use Rattle.std.proofs.Common.{◌≡◌, ◌≢◌, ℕ, suc, zero, ◌+◌, ◌*◌, ◌<◌, ◌≤◌, ◌^◌, Bool, true, false, not, eqb, List, [], ◌∷◌, ◌++◌, Option, Some, None, length, get_or, take, map, refl, sym, ap, subst, ◌∙◌, ◌⊎◌, inl, inr, arith}
+use Rattle.std.specs.Prelude.{slice_get, All, option_map}
 use Rattle.std.specs.List.{list_any, AllPairs}
 use Rattle.std.specs.Option.{option_or}
 use Rattle.std.proofs.lemmas.Grind.{common_steps}
-use Rattle.std.proofs.lemmas.Bool.{cases_eq, cases_lt, or_cases, eqb-true}
+use Rattle.std.proofs.lemmas.Bool.{cases_eq, cases_lt}
 use Rattle.std.proofs.lemmas.Bool.Decides.{Decides-eqb}
-use Rattle.std.proofs.lemmas.List.{length-map, get_or-map, take-append-le, take_at}
-use Rattle.std.proofs.lemmas.Option.{same_Some, slice_get_within, slice_get-get_or, slice_get-map}
+use Rattle.std.proofs.lemmas.List.{length-map, get_or-map}
+use Rattle.std.proofs.lemmas.Option.{same_Some, slice_get-get_or, slice_get-map}
 use Rattle.std.proofs.lemmas.Map.Steps.{length-le_from_distinct_below}
 use Rattle.std.proofs.lemmas.Map.Made.{IsDistinct-from_AllPairs}
 use Rattle.clause_store.specs.declared.lit.Lit.{Lit}
 use Rattle.clause_store.specs.declared.line.Line.{Line}
 use Rattle.clause_store.specs.declared.line.Cut.{Cut}
 use Rattle.clause_store.specs.Signs.{Ascends, Signs, sign_of}
-use Rattle.clause_store.specs.Assignments.{HasTrue, HasTwoOpen, IsClosed, IsClosedFor, IsUnit}
+use Rattle.clause_store.specs.Assignments.{IsClosedFor}
 use Rattle.clause_store.specs.Resolvents.{IsResolvent, LeadsTo}
-use Rattle.clause_store.specs.Derivations.{clauses_of, earlier, IsValidLine, IsNewUnder, IsNew, AllValid, AllNew}
-use Rattle.clause_solver.specs.Propagation.{IsOver, IsInRange}
+use Rattle.clause_store.specs.Derivations.{earlier, IsValidLine, IsNewUnder, IsNew, AllValid}
+use Rattle.clause_solver.specs.Propagation.{IsOver}
 use Rattle.clause_solver.specs.Outcomes.{IsProgress}
 use Rattle.clause_solver.specs.Laws.{FewLines, NoneAfterEmpty}
-use Rattle.clause_solver.proofs.SignFacts.{cases_option, slice_get-left, slice_get-front, slice_get-take, sign_same}
+use Rattle.clause_solver.proofs.SignFacts.{cases_option, slice_get-left, slice_get-front, slice_get-take}
 use Rattle.clause_solver.proofs.PropagationFacts.{at_all, held_range}
 use Rattle.clause_solver.proofs.AnalysisFacts.{empty_from_signs}
 use Rattle.clause_solver.proofs.OutcomeFacts.{clause_of}

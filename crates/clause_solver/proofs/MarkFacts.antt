@@ -1,20 +1,17 @@
 -- Marks of variables: what they count, and the clause that is collected from them.
-use Rattle.std.proofs.Common.{◌≡◌, ◌≢◌, ℕ, suc, zero, ◌+◌, ◌-◌, ◌<◌, ◌≤◌, Bool, true, false, not, eqb, cond, ◌||◌, List, [], ◌∷◌, ◌++◌, Option, Some, None, is_some, length, get_or, take, drop, map, refl, sym, ap, subst, ◌∙◌, ◌⊎◌, inl, inr, arith}
+use Rattle.std.proofs.Common.{◌≡◌, ◌≢◌, ℕ, ◌+◌, ◌-◌, ◌<◌, ◌≤◌, Bool, true, false, not, cond, ◌||◌, List, [], ◌∷◌, ◌++◌, Option, Some, None, is_some, length, get_or, take, drop, refl, sym, ap, ◌∙◌, inl, inr, arith}
 use Rattle.std.specs.Prelude.{slice_get, All, option_map}
 use Rattle.std.specs.Option.{IsSomeAnd}
 use Rattle.std.proofs.Math.ListN.{set}
-use Rattle.std.proofs.lemmas.Grind.{common_steps}
-use Rattle.std.proofs.lemmas.Bool.{cases_eq, cases_lt, cases_order, cases_Bool}
-use Rattle.std.proofs.lemmas.List.{length-set, length-map, length-drop, same_lists, get_or-map, get_or-drop, get_or-set_same, get_or-set_other, get_or_past, get_or_default, drop-set-add, drop-set-lt, length_push}
-use Rattle.std.proofs.lemmas.List.Elements.{All-push, All-weaker}
+use Rattle.std.proofs.lemmas.Bool.{cases_eq, cases_lt, cases_order}
+use Rattle.std.proofs.lemmas.List.{length-set, length-drop, same_lists, get_or-map, get_or-drop, get_or-set_same, get_or-set_other, get_or_past, get_or_default, drop-set-add, drop-set-lt}
+use Rattle.std.proofs.lemmas.List.Elements.{All-push}
 use Rattle.std.proofs.lemmas.List.Quantifiers.{all_pairs_push}
-use Rattle.std.proofs.lemmas.Option.{same_Some, slice_get_within, get_or_from_slice_get, slice_get-get_or}
+use Rattle.std.proofs.lemmas.Option.{slice_get_within, get_or_from_slice_get, slice_get-get_or}
 use Rattle.clause_store.specs.declared.lit.Lit.{Lit}
 use Rattle.clause_store.specs.Signs.{Ascends, sign_of}
-use Rattle.clause_solver.specs.Trails.{IsPlaceOf}
-use Rattle.clause_solver.specs.Propagation.{IsInRange}
 use Rattle.clause_solver.specs.Analysis.{is_marked, marked_signs, flags, trues, marked_from, Covers}
-use Rattle.clause_solver.proofs.SignFacts.{cases_option, present, is_present, sign_at, sign_present, sign_push_same, sign_push_other, front_more, slice_get-take, slice_get-front, sign_of-append, sign_same, sign_other}
+use Rattle.clause_solver.proofs.SignFacts.{cases_option, is_present, sign_present, sign_push_same, sign_push_other, front_more, slice_get-front}
 use Rattle.clause_solver.proofs.StandingFacts.{ascends_fresh, ascends_sign}
 use Rattle.clause_solver.proofs.PropagationFacts.{held_range}
 use Rattle.clause_solver.proofs.CountFacts.{IsFresh, flag_at, length-flags, trues_set_true, trues_set_false}

@@ -1,22 +1,20 @@
 -- Lines that are added one by one, and what a solver answers.
-use Rattle.std.proofs.Common.{◌≡◌, ◌≢◌, ℕ, suc, zero, ◌+◌, ◌-◌, ◌<◌, ◌≤◌, ◌^◌, Bool, true, false, not, eqb, List, [], ◌∷◌, ◌++◌, Option, Some, None, is_some, length, get_or, take, map, refl, sym, ap, subst, ◌∙◌, ◌⊎◌, inl, inr, arith, append_assoc}
-use Rattle.std.specs.Prelude.{slice_get, slice_index, All, Contains, unwrap_or, slice_index_or}
+use Rattle.std.proofs.Common.{◌≡◌, ◌≢◌, ℕ, ◌-◌, ◌<◌, ◌≤◌, ◌^◌, Bool, true, false, List, [], ◌∷◌, ◌++◌, Some, None, is_some, length, get_or, take, map, refl, sym, ap, subst, ◌∙◌, inl, inr, arith, append_assoc}
+use Rattle.std.specs.Prelude.{slice_get, All, unwrap_or, slice_index_or}
 use Rattle.std.proofs.Math.ListN.{replicate}
-use Rattle.std.proofs.lemmas.Grind.{common_steps}
-use Rattle.std.proofs.lemmas.Bool.{cases_eq, cases_lt}
-use Rattle.std.proofs.lemmas.List.{take-append-le, take_at, map_push, append-nil, length-append, length-replicate, get_or_append_left, length-take}
-use Rattle.std.proofs.lemmas.List.Elements.{All-push, All-append, All-replicate, All-map}
-use Rattle.std.proofs.lemmas.Option.{same_Some, slice_get_within, slice_get-get_or}
+use Rattle.std.proofs.lemmas.List.{take-append-le, take_at, map_push, append-nil, length-replicate}
+use Rattle.std.proofs.lemmas.List.Elements.{All-push, All-replicate}
+use Rattle.std.proofs.lemmas.Option.{slice_get_within, slice_get-get_or}
 use Rattle.clause_store.specs.declared.lit.Lit.{Lit}
 use Rattle.clause_store.specs.declared.line.Line.{Line}
 use Rattle.clause_store.specs.Signs.{Ascends, sign_of}
-use Rattle.clause_store.specs.Assignments.{IsAssignment, HasTrue, HasTwoOpen, IsClosed, IsClosedFor, IsUnit, IsMet}
-use Rattle.clause_store.specs.Derivations.{clauses_of, earlier, IsValidLine, IsNewUnder, IsNew, AllValid, AllNew}
-use Rattle.clause_solver.specs.Trails.{History, IsCoherent, untouched, level_start_of}
+use Rattle.clause_store.specs.Assignments.{IsAssignment, IsClosedFor, IsMet}
+use Rattle.clause_store.specs.Derivations.{clauses_of, earlier, IsValidLine, IsNew, AllValid, AllNew}
+use Rattle.clause_solver.specs.Trails.{History, untouched, level_start_of}
 use Rattle.clause_solver.specs.Propagation.{IsOver, IsInRange, IsExplained, IsModel}
 use Rattle.clause_solver.specs.Analysis.{IsLearnt, IsAnalyzed}
-use Rattle.clause_solver.specs.Outcomes.{IsSolution, IsProgress, IsRefutation, IsReady}
-use Rattle.clause_solver.proofs.SignFacts.{present, slice_get-take, slice_get-left, slice_get-push}
+use Rattle.clause_solver.specs.Outcomes.{IsSolution, IsRefutation, IsReady}
+use Rattle.clause_solver.proofs.SignFacts.{slice_get-take, slice_get-left, slice_get-push}
 use Rattle.clause_solver.proofs.PropagationFacts.{at_all, all_at, held_range}
 use Rattle.clause_solver.proofs.CountFacts.{IsFresh}
 use Rattle.clause_solver.proofs.MarkFacts.{fresh_apart}

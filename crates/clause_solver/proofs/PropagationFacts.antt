@@ -1,18 +1,16 @@
 -- What stays true of a trail and its clauses as literals are forced and decided.
-use Rattle.std.proofs.Common.{◌≡◌, ◌≢◌, ℕ, suc, zero, ◌+◌, ◌-◌, ◌<◌, ◌≤◌, Bool, true, false, not, eqb, List, [], ◌∷◌, ◌++◌, Option, Some, None, is_some, length, get_or, take, refl, sym, ap, subst, ◌∙◌, ◌⊎◌, inl, inr, arith, length-append}
+use Rattle.std.proofs.Common.{◌≡◌, ℕ, suc, ◌<◌, ◌≤◌, Bool, false, eqb, List, [], ◌∷◌, ◌++◌, Option, Some, None, length, get_or, take, refl, sym, ap, subst, ◌∙◌, ◌⊎◌, inl, inr, arith}
 use Rattle.std.specs.Prelude.{slice_get, slice_index, All}
-use Rattle.std.specs.Option.{option_or}
 use Rattle.std.proofs.lemmas.Grind.{common_steps}
 use Rattle.std.proofs.lemmas.Bool.{cases_eq, cases_lt}
-use Rattle.std.proofs.lemmas.List.{length_push, take-append-le, take_at, get_or_append_left, get_or_push, get_or_past}
-use Rattle.std.proofs.lemmas.List.Elements.{All-from_get_or}
+use Rattle.std.proofs.lemmas.List.{length_push, take-append-le, take_at, get_or_append_left, get_or_push}
 use Rattle.std.proofs.lemmas.Option.{same_Some, slice_get_within, get_or_from_slice_get, slice_get-get_or}
 use Rattle.clause_store.specs.declared.lit.Lit.{Lit}
 use Rattle.clause_store.specs.Signs.{sign_of}
-use Rattle.clause_store.specs.Assignments.{HasTrue, HasTwoOpen, IsClosed, IsClosedFor, IsFalsified, IsUnit}
-use Rattle.clause_solver.specs.Trails.{History, IsCoherent, untouched, pushed, opened}
-use Rattle.clause_solver.specs.Propagation.{IsInRange, IsUnitOpen, IsReason, IsExplained, Extends, IsVisited, IsSwept, IsModel, IsFull}
-use Rattle.clause_solver.proofs.SignFacts.{cases_option, present, is_present, sign_of-front, slice_get-left, slice_get-push, slice_get-last}
+use Rattle.clause_store.specs.Assignments.{IsClosed}
+use Rattle.clause_solver.specs.Trails.{History, IsCoherent, pushed, opened}
+use Rattle.clause_solver.specs.Propagation.{IsInRange, IsUnitOpen, IsReason, IsExplained, Extends}
+use Rattle.clause_solver.proofs.SignFacts.{slice_get-left, slice_get-push, slice_get-last}
 
 -- a fact of each item, by the places of the items
 pub all_at : {X : Type 0} (P : X → Type 0) (xs : List X) → ((k : ℕ) (x : X) → slice_get xs k ≡ Some x → P x) → All P xs

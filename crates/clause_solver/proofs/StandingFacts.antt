@@ -1,17 +1,15 @@
 -- How a clause stands under a trail, from the literals that were looked at.
-use Rattle.std.proofs.Common.{◌≡◌, ◌≢◌, ℕ, suc, zero, ◌+◌, ◌<◌, ◌≤◌, Bool, true, false, not, eqb, List, [], ◌∷◌, ◌++◌, Option, Some, None, is_some, length, get_or, take, refl, sym, ap, ◌∙◌, ◌⊎◌, inl, inr, arith}
+use Rattle.std.proofs.Common.{◌≡◌, ◌≢◌, ℕ, ◌+◌, ◌<◌, Bool, true, false, not, List, [], ◌∷◌, ◌++◌, Option, Some, None, get_or, take, refl, sym, ap, ◌∙◌, ◌⊎◌, inl, inr, arith}
 use Rattle.std.specs.Prelude.{slice_get, MatchOption}
 use Rattle.std.specs.Bool.{beq}
 use Rattle.std.specs.Option.{option_or}
-use Rattle.std.proofs.lemmas.Grind.{common_steps}
-use Rattle.std.proofs.lemmas.Bool.{cases_eq, cases_lt}
-use Rattle.std.proofs.lemmas.List.{get_or-take, length-take, take_all}
+use Rattle.std.proofs.lemmas.Bool.{cases_eq}
 use Rattle.std.proofs.lemmas.Option.{same_Some, slice_get_within, get_or_from_slice_get}
 use Rattle.clause_store.specs.declared.lit.Lit.{Lit}
 use Rattle.clause_store.specs.Signs.{Ascends, sign_of}
-use Rattle.clause_store.specs.Assignments.{HasTrue, HasTwoOpen, IsFalsified, IsUnit}
-use Rattle.clause_solver.specs.Propagation.{IsInRange, IsUnitOpen}
-use Rattle.clause_solver.proofs.SignFacts.{cases_option, is_present, sign_of-append, sign_same, sign_other, sign_of-front, sign_at, IsFirstAt, sign_found, sign_push_same, sign_push_other, front_more, slice_get-take}
+use Rattle.clause_store.specs.Assignments.{HasTrue, HasTwoOpen, IsFalsified}
+use Rattle.clause_solver.specs.Propagation.{IsUnitOpen}
+use Rattle.clause_solver.proofs.SignFacts.{cases_option, sign_of-append, sign_of-front, sign_at, IsFirstAt, sign_found, sign_push_same, sign_push_other, front_more, slice_get-take}
 
 -- in a clause no variable stands before its place
 pub ascends_fresh : (c : List Lit) → Ascends c → (i : ℕ) (l : Lit) → slice_get c i ≡ Some l → sign_of (take i c) l.var ≡ None

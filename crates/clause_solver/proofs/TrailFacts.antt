@@ -1,20 +1,19 @@
 -- The tables of a trail, as literals come and go.
-use Rattle.std.proofs.Common.{◌≡◌, ◌≢◌, ℕ, suc, zero, ◌+◌, ◌-◌, ◌<◌, ◌≤◌, ◌^◌, Bool, true, false, not, eqb, cond, ◌||◌, List, [], ◌∷◌, ◌++◌, Option, Some, None, is_some, is_none, length, get_or, take, drop, map, refl, sym, ap, subst, ◌∙◌, ◌⊎◌, inl, inr, arith, length-append}
+use Rattle.std.proofs.Common.{◌≡◌, ◌≢◌, ℕ, ◌+◌, ◌<◌, ◌≤◌, ◌^◌, Bool, true, false, eqb, List, [], ◌∷◌, ◌++◌, Option, Some, None, is_some, is_none, length, get_or, take, map, refl, sym, ap, subst, ◌∙◌, inl, inr, arith}
 use Rattle.std.specs.Prelude.{slice_get}
 use Rattle.std.specs.List.{list_any, AllPairs}
-use Rattle.std.specs.Option.{option_or}
 use Rattle.std.proofs.Math.ListN.{set, replicate}
 use Rattle.std.proofs.lemmas.Grind.{common_steps}
-use Rattle.std.proofs.lemmas.Bool.{cases_eq, cases_lt, cases_order, or_cases, eqb-true}
+use Rattle.std.proofs.lemmas.Bool.{cases_eq, cases_lt}
 use Rattle.std.proofs.lemmas.Bool.Decides.{Decides-eqb}
-use Rattle.std.proofs.lemmas.List.{take-append-drop, take-take, take_at, take_all, length-set, length-map, length-replicate, length-take, length_push, get_or-replicate, get_or_past, get_or-set_same, get_or-set_other, get_or-map}
-use Rattle.std.proofs.lemmas.Option.{same_Some, slice_get_within, get_or_from_slice_get, slice_get-get_or}
+use Rattle.std.proofs.lemmas.List.{take_at, length-set, length-map, length-replicate, length_push, get_or-replicate, get_or_past, get_or-set_same, get_or-set_other, get_or-map}
+use Rattle.std.proofs.lemmas.Option.{slice_get-get_or}
 use Rattle.std.proofs.lemmas.Map.Steps.{length-le_from_distinct_below}
 use Rattle.std.proofs.lemmas.Map.Made.{IsDistinct-from_AllPairs}
 use Rattle.clause_store.specs.declared.lit.Lit.{Lit}
 use Rattle.clause_store.specs.Signs.{sign_of}
-use Rattle.clause_solver.specs.Trails.{History, IsTabled, IsCoherent, IsPlaceOf, pushed, opened, shortened, undone, level_start_of}
-use Rattle.clause_solver.proofs.SignFacts.{cases_option, present, is_present, sign_of-append, sign_same, sign_other, sign_of-front, sign_of-front_le, sign_of-front_none, sign_at, IsFirstAt, sign_found, sign_present, sign_push_same, sign_push_other, slice_get-take, slice_get-front, slice_get-left, slice_get-push, slice_get-last}
+use Rattle.clause_solver.specs.Trails.{IsTabled, IsCoherent, IsPlaceOf}
+use Rattle.clause_solver.proofs.SignFacts.{cases_option, present, is_present, sign_same, sign_other, IsFirstAt, sign_found, sign_present, sign_push_same, sign_push_other, slice_get-take, slice_get-left, slice_get-push, slice_get-last}
 
 pub get_or-replicate_any : {X : Type 0} (n v : ℕ) (x : X) → get_or (replicate n x) v x ≡ x
 get_or-replicate_any n v x =

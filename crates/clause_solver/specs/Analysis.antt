@@ -1,9 +1,9 @@
 -- The analysis of a conflict: marks of variables stand for the clause that there is so far.
-use Rattle.std.specs.Prelude.{◌≡◌, ◌≢◌, ℕ, ◌+◌, ◌<◌, ◌≤◌, Bool, true, false, not, List, [], ◌∷◌, length, take, drop, map, Option, Some, None, is_some, option_map, slice_get, slice_index_or, cond, eqb, All}
+use Rattle.std.specs.Prelude.{◌≡◌, ◌≢◌, ℕ, ◌+◌, ◌<◌, ◌≤◌, Bool, true, false, not, List, [], ◌∷◌, length, take, drop, map, Some, None, is_some, option_map, slice_get, slice_index_or, cond, eqb, All}
 use Rattle.clause_store.specs.declared.lit.Lit.{Lit}
 use Rattle.clause_store.specs.declared.line.Cut.{Cut}
 use Rattle.clause_store.specs.Signs.{Signs, sign_of}
-use Rattle.clause_store.specs.Assignments.{IsFalsified, IsUnit}
+use Rattle.clause_store.specs.Assignments.{IsUnit}
 use Rattle.clause_store.specs.Resolvents.{LeadsTo}
 use Rattle.clause_solver.specs.Trails.{History, level_start_of}
 

@@ -1,5 +1,5 @@
 -- How clauses stand under a trail, and what a search keeps of its trail and its clauses.
-use Rattle.std.specs.Prelude.{◌≡◌, ◌≢◌, ℕ, ◌<◌, ◌≤◌, Bool, List, [], length, take, Option, Some, None, is_some, slice_get, slice_index, All, IsSome}
+use Rattle.std.specs.Prelude.{◌≡◌, ℕ, ◌<◌, ◌≤◌, List, length, take, Option, Some, None, slice_get, slice_index, All, IsSome}
 use Rattle.clause_store.specs.declared.lit.Lit.{Lit}
 use Rattle.clause_store.specs.Signs.{Ascends, sign_of}
 use Rattle.clause_store.specs.Assignments.{HasTrue, HasTwoOpen, IsClosed, IsClosedFor, IsFalsified, IsUnit}

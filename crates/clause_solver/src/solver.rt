@@ -9,7 +9,7 @@ use crate::jump::jump_back;
 use crate::outcome::Outcome;
 use crate::search::search;
 use crate::trail::Trail;
-use clause_store::{Derivation, Line, Store};
+use clause_store::{Cut, Derivation, Line, Lit, Store};
 use coco_base::{List, NoMemory};
 use pickers::Picker;
 use std::alloc::Global;
@@ -39,14 +39,22 @@ fn values_of(alloc: Global, trail: &Trail) -> Result<List<bool>, NoMemory>
     Ok(values)
 }
 
-/// Tells the picker of each variable that an analysis met: those of the line's clause and those that were cut.
-fn bump_all(picker: &mut Box<dyn Picker>, line: &Line) {
-    for lit in line.clause.iter() {
+fn bump_lits(picker: &mut Box<dyn Picker>, lits: &[Lit]) {
+    for lit in lits {
         picker.bump(lit.var);
     }
-    for cut in line.cuts.iter() {
+}
+
+fn bump_cuts(picker: &mut Box<dyn Picker>, cuts: &[Cut]) {
+    for cut in cuts {
         picker.bump(cut.var);
     }
+}
+
+/// Tells the picker of each variable that an analysis met: those of the line's clause and those that were cut.
+fn bump_all(picker: &mut Box<dyn Picker>, line: &Line) {
+    bump_lits(picker, line.clause.as_slice());
+    bump_cuts(picker, line.cuts.as_slice());
 }
 
 /// Searches for values that meet every clause of the store, with at most so many lines of a derivation.

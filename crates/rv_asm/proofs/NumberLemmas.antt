@@ -1,5 +1,5 @@
 -- Numbers that are cut at a bound stand for all greater ones.
-use Rattle.std.proofs.Common.{◌≡◌, ℕ, ◌+◌, ◌*◌, ◌≤◌, ◌^◌, List, [], ◌∷◌, Option, Some, None, min, refl, ap, sym, ◌∙◌, arith}
+use Rattle.std.proofs.Common.{◌≡◌, ℕ, ◌+◌, ◌*◌, ◌^◌, List, [], ◌∷◌, Option, Some, None, min, refl, ap, sym, ◌∙◌, arith}
 use Rattle.std.specs.Option.{option_map}
 use Rattle.rv_asm.specs.declared.numbers.Base.{Base}
 use Rattle.rv_asm.specs.declared.numbers.Base.TheVariants.{Ten, Sixteen}
@@ -15,8 +15,8 @@ pub digits_on-capped : (base : Base) (bytes : List ℕ) (v w : ℕ) → capped v
 digits_on-capped base [] v w e = ap Some e
 digits_on-capped base (byte ∷ more) v w e =
     elim (digit_of base byte) as (λ o. option_map capped (o >>= λ d. digits_on base (v * worth base + d) more) ≡ option_map capped (o >>= λ d. digits_on base (w * worth base + d) more)) [
-      None ↦ refl
-    | Some d ↦ digits_on-capped base more (v * worth base + d) (w * worth base + d) (capped_step base v w d e)
+      | None ↦ refl
+      | Some d ↦ digits_on-capped base more (v * worth base + d) (w * worth base + d) (capped_step base v w d e)
     ]
 
 -- one digit more

@@ -1,5 +1,5 @@
 -- Numbers as they are written.
-use Rattle.std.specs.Prelude.{◌≡◌, ℕ, ◌+◌, ◌-◌, ◌*◌, ◌^◌, ◌==◌, nat_le, ℤ, pos, neg_ℤ, Bool, true, false, if◌then◌else◌, List, [], ◌∷◌, length, drop, Option, Some, None, codes, min}
+use Rattle.std.specs.Prelude.{ℕ, ◌+◌, ◌-◌, ◌*◌, ◌^◌, ◌==◌, nat_le, ℤ, pos, neg_ℤ, Bool, true, false, if◌then◌else◌, List, [], ◌∷◌, drop, Option, Some, None, codes, min}
 use Rattle.std.specs.List.{starts_with}
 use Rattle.rv_asm.specs.declared.numbers.Base.{Base}
 use Rattle.rv_asm.specs.declared.numbers.Base.TheVariants.{Ten, Sixteen}

@@ -40,5 +40,5 @@ items_up_to item zero bytes = ([], bytes)
 items_up_to item (suc n) bytes = from_first bytes (items_up_to item n) (item bytes)
 
 -- all items at the front: each takes a byte or more, so there are no more than bytes
-unfoldable pub items_at : {A : Type 0} → (List ℕ → Option (A × List ℕ)) → List ℕ → List A × List ℕ
+abbrev pub items_at : {A : Type 0} → (List ℕ → Option (A × List ℕ)) → List ℕ → List A × List ℕ
 items_at item bytes = items_up_to item (length bytes) bytes

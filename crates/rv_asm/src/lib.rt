@@ -1,11 +1,16 @@
-//! Programs for RV32I as images of words, from a file of words.
+//! Programs for RV32I as images of words, from a file of words; and the parts of the lines of an assembler, from bytes to
+//! the operands of a statement.
 #![tactic(auto)]
 
+mod expression;
 mod fault;
 mod image;
 mod lines;
+mod mnemonics;
 mod numbers;
+mod operands;
 mod reading;
+mod registers;
 mod tokens;
 mod words;
 

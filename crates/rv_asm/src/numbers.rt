@@ -73,7 +73,11 @@ fn signed(negative: bool, number: u64) -> Option<i64>
     ensures { result ≡ literal negative number }
 {
     if negative {
-        if number <= 1 << 31 { Some(-(number as i64)) } else { None }
+        if number <= 1 << 31 {
+            Some(-(number as i64))
+        } else {
+            None
+        }
     } else if number <= u64::from(u32::MAX) {
         Some(number as i64)
     } else {

@@ -1,5 +1,10 @@
-//! Files of words, and their faults.
+//! Files of words, and their faults; parts of lines.
+use crate::expression::Half;
+use crate::mnemonics::{Form, form_of};
+use crate::operands::{indirect, one_number, three_registers, values};
+use crate::reading::Unread;
 use crate::{AsmFault, read_words};
+use rv_isa::{BranchOp, RegOp};
 use std::alloc::Global;
 use std::process::Abort;
 
@@ -67,4 +72,35 @@ fn word_too_many(rt: HostRuntime) -> Result<(), std::test::Fail> {
     file.extend_from_slice(b"\n# nothing\n00000013\nx\n")?;
     check_fault(&rt, alloc, &file, AsmFault::Range { line: 4099 });
     Ok(())
+}
+
+#[test]
+fn forms_of_statements(rt: HostRuntime) {
+    assert_eq!(rt; form_of(b"sltu"), Some(Form::Reg(RegOp::Sltu)));
+    assert_eq!(rt; form_of(b"bleu"), Some(Form::Exchanged(BranchOp::Bgeu)));
+    assert_eq!(rt; form_of(b"bgtz"), Some(Form::First(BranchOp::Blt)));
+    assert_eq!(rt; form_of(b".p2align"), Some(Form::Power));
+    assert_eq!(rt; form_of(b"frob"), None);
+}
+
+#[test]
+fn operands_of_statements(rt: HostRuntime) {
+    let alloc = rt.alloc();
+    assert_eq!(rt; three_registers(b" a0,zero\t, x31 "), Ok((10, 0, 31)));
+    assert_eq!(rt; three_registers(b" a0,a1"), Err(Unread::Other));
+    assert_eq!(rt; one_number(b" -2147483648"), Ok(Some(-2147483648)));
+    assert_eq!(rt; one_number(b" 0xFFFFffff"), Ok(Some(4294967295)));
+    assert_eq!(rt; one_number(b" 4294967296"), Ok(None));
+    assert_eq!(rt; one_number(b" - 1"), Err(Unread::Other));
+    match indirect(alloc, b"a0, %lo ( b - -4 ) (sp)") {
+        Ok((register, value, base)) => {
+            assert_eq!(rt; (register, base), (10, 2));
+            assert!(rt; value.halves.as_slice() == [Half::Low].as_slice());
+            assert!(rt; value.sum.minus);
+            assert_eq!(rt; value.sum.amount, Some(-4));
+        }
+        Err(_) => panic!(rt; "no operands"),
+    }
+    assert!(rt; values(alloc, b" 1, b+2 , .").is_ok());
+    assert!(rt; values(alloc, b" 1,").is_err());
 }

@@ -3,7 +3,7 @@ ghost use Rattle.std.specs.Prelude.{◌≡◌, ◌≤◌, [], ◌∷◌, length,
 ghost use Rattle.std.specs.List.{prefix_len};
 ghost use Rattle.rv_asm.specs.WordFile.{is_blank};
 ghost use Rattle.rv_asm.specs.Readings.{Gives};
-ghost use Rattle.rv_asm.specs.Tokens.{after_blanks, ends, is_name, is_name_byte, mark_at, name_at, run_at, word_at};
+ghost use Rattle.rv_asm.specs.Tokens.{after_blanks, begins_with_digit, ends, is_name, is_name_byte, mark_at, name_at, run_at, word_at};
 
 use crate::reading::Unread;
 use crate::words::is_blank_byte;
@@ -94,13 +94,18 @@ pub(crate) fn word(bytes: &[u8]) -> Result<(&[u8], &[u8]), Unread>
     run(skip_blanks(bytes))
 }
 
+pub(crate) fn begins_with_digit(word: &[u8]) -> bool
+    ensures { result ≡ begins_with_digit word.now }
+{
+    matches!(word, [b'0'..=b'9', ..])
+}
+
 fn is_name(word: &[u8]) -> bool
     ensures { result ≡ is_name word.now }
 {
     match word {
-        [b'0'..=b'9', ..] => false,
         b"." => false,
-        _ => true,
+        _ => !begins_with_digit(word),
     }
 }
 

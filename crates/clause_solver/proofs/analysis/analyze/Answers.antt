@@ -1,7 +1,7 @@
-use Rattle.std.proofs.Common.{◌≡◌, ◌<◌, ◌≤◌, ◌-◌, ◌+◌, sym, ◌∙◌, ap, subst, arith}
+use Rattle.std.proofs.Common.{◌≡◌, ◌<◌, ◌≤◌, ◌-◌, ◌+◌, subst, arith}
 use Rattle.clause_store.specs.Derivations.{clauses_of}
 use Rattle.clause_solver.specs.Analysis.{IsChained, least_of}
-use Rattle.clause_solver.proofs.AnalysisFacts.{chained_top, analyzed_is, valid_is}
+use Rattle.clause_solver.proofs.AnalysisFacts.{chained_top, analyzed_is}
 use Rattle.clause_solver.proofs.analysis.analyze.Goals as goal
 
 pub overflow_sub-top : goal.overflow_sub-top

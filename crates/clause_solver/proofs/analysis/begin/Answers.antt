@@ -1,9 +1,9 @@
-use Rattle.std.proofs.Common.{◌≡◌, Some, sym, ◌∙◌, ap, arith}
+use Rattle.std.proofs.Common.{◌≡◌, Some, sym, ◌∙◌, ap}
 use Rattle.std.specs.Prelude.{slice_get}
 use Rattle.clause_store.specs.Derivations.{clauses_of}
 use Rattle.clause_solver.specs.Analysis.{marked_from}
 use Rattle.clause_solver.proofs.PropagationFacts.{range_at}
-use Rattle.clause_solver.proofs.AnalysisFacts.{clear_count, chained_begin, broken_at, broken_covers}
+use Rattle.clause_solver.proofs.AnalysisFacts.{clear_count, chained_begin}
 use Rattle.clause_solver.proofs.analysis.begin.Goals as goal
 
 pub mark_clause-requires-clause-range : goal.mark_clause-requires-clause-range

@@ -1,11 +1,10 @@
-use Rattle.std.proofs.Common.{◌≡◌, ℕ, refl, ◌<◌, ◌≤◌, ◌++◌, ◌∷◌, [], Some, None, length, true, false, sym, ◌∙◌, ap, arith}
+use Rattle.std.proofs.Common.{◌≡◌, ℕ, refl, ◌++◌, ◌∷◌, [], Some, None, sym, ◌∙◌, ap, arith}
 use Rattle.std.specs.Prelude.{slice_get}
 use Rattle.std.proofs.lemmas.Option.{none-some}
 use Rattle.clause_store.specs.declared.line.Cut.{Cut}
-use Rattle.clause_store.specs.Signs.{sign_of}
 use Rattle.clause_store.specs.Derivations.{clauses_of}
 use Rattle.clause_solver.specs.Trails.{level_start_of}
-use Rattle.clause_solver.specs.Analysis.{is_marked, marked_from}
+use Rattle.clause_solver.specs.Analysis.{marked_from}
 use Rattle.clause_solver.proofs.SignFacts.{sign_at}
 use Rattle.clause_solver.proofs.PropagationFacts.{range_at}
 use Rattle.clause_solver.proofs.AnalysisFacts.{chained_skip, chained_forced, chained_cut, covered_reason, reason_at}

@@ -1,5 +1,5 @@
-use Rattle.std.proofs.Common.{◌≡◌, ◌≢◌, [], length, sym, ◌∙◌, ap, arith}
-use Rattle.clause_solver.proofs.JumpFacts.{explained_jump, kept_more}
+use Rattle.std.proofs.Common.{◌≢◌, [], length, ap, arith}
+use Rattle.clause_solver.proofs.JumpFacts.{explained_jump}
 use Rattle.clause_solver.proofs.jump.jump_back.Goals as goal
 
 pub undo-requires-clause-place : goal.undo-requires-clause-place

@@ -1,4 +1,3 @@
-use Rattle.clause_solver.specs.Trails.{level_start_of}
 use Rattle.clause_solver.specs.Jumps.{IsKept}
 use Rattle.clause_solver.proofs.jump.kept_places.Given as goal
 

@@ -1,4 +1,4 @@
-use Rattle.std.proofs.Common.{◌≡◌, ◌<◌, ◌++◌, ◌∷◌, [], false, Some, length, sym, ◌∙◌, ap, arith}
+use Rattle.std.proofs.Common.{◌≡◌, ◌<◌, ◌++◌, ◌∷◌, [], Some, length, sym, ◌∙◌, arith}
 use Rattle.clause_store.specs.Signs.{sign_of}
 use Rattle.clause_solver.proofs.MarkFacts.{false_lit, collected_skip, collected_unset, collected_cut, collected_signs, collected_clear}
 use Rattle.clause_solver.proofs.marks.collect.Goals as goal

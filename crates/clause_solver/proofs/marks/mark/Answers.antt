@@ -1,5 +1,4 @@
 use Rattle.std.proofs.Common.{◌≡◌, ◌+◌, ◌<◌, length, true, false, sym, ◌∙◌, ap, arith}
-use Rattle.std.specs.Prelude.{slice_get}
 use Rattle.std.proofs.Math.ListN.{set}
 use Rattle.clause_solver.specs.Analysis.{is_marked, marked_from}
 use Rattle.clause_solver.proofs.CountFacts.{marked_le}

@@ -1,4 +1,4 @@
-use Rattle.std.proofs.Common.{◌≡◌, false, length, sym, ◌∙◌, ap, arith}
+use Rattle.std.proofs.Common.{false, ◌∙◌, arith}
 use Rattle.std.proofs.lemmas.Option.{slice_get-get_or}
 use Rattle.clause_store.specs.declared.lit.Lit.{Lit}
 use Rattle.clause_solver.proofs.MarkFacts.{marked_more, covered_at}

@@ -1,4 +1,4 @@
-use Rattle.std.proofs.Common.{◌≡◌, Some, sym, rules, arith}
+use Rattle.std.proofs.Common.{◌≡◌, Some, sym}
 use Rattle.std.specs.Prelude.{slice_get}
 use Rattle.clause_store.specs.Derivations.{clauses_of}
 use Rattle.clause_solver.specs.Trails.{IsCoherent, pushed}

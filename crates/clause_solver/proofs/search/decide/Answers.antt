@@ -1,4 +1,4 @@
-use Rattle.std.proofs.Common.{◌≡◌, ℕ, None, false, sym, ◌∙◌, ap, arith}
+use Rattle.std.proofs.Common.{◌≡◌, ℕ, None, false, ◌∙◌, ap}
 use Rattle.clause_store.specs.declared.lit.Lit.{Lit}
 use Rattle.clause_solver.specs.Trails.{IsCoherent, pushed, opened}
 use Rattle.clause_solver.proofs.PropagationFacts.{explained_decide}

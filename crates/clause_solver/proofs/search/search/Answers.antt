@@ -1,7 +1,6 @@
-use Rattle.std.proofs.Common.{◌≡◌, sym, ◌∙◌, ap, arith}
+use Rattle.std.proofs.Common.{◌∙◌}
 use Rattle.clause_store.specs.Assignments.{IsClosed}
 use Rattle.clause_store.specs.Derivations.{clauses_of}
-use Rattle.clause_solver.proofs.CountFacts.{flag_at}
 use Rattle.clause_solver.proofs.search.search.Goals as goal
 
 pub searching-preserved : goal.searching-preserved

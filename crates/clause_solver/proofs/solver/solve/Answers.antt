@@ -1,14 +1,11 @@
-use Rattle.std.proofs.Common.{◌≡◌, ◌≢◌, ◌+◌, ◌++◌, ◌∷◌, [], Bool, List, length, take, drop, refl, sym, ◌∙◌, ap, subst, ◌⊎◌, inl, inr, arith}
-use Rattle.std.proofs.Math.ListN.{replicate}
+use Rattle.std.proofs.Common.{◌≡◌, ◌≢◌, ◌+◌, ◌++◌, ◌∷◌, [], length, take, drop, refl, sym, ◌∙◌, ap, inl, arith}
 use Rattle.std.proofs.lemmas.Bool.{iff_false}
 use Rattle.std.proofs.lemmas.List.{take_at, length_push}
 use Rattle.clause_store.specs.declared.line.Line.{Line}
 use Rattle.clause_store.specs.Derivations.{clauses_of, IsValidLine}
-use Rattle.clause_solver.specs.Trails.{untouched}
 use Rattle.clause_solver.specs.Propagation.{IsExplained, IsModel, IsInRange}
-use Rattle.clause_solver.specs.Analysis.{IsAnalyzed}
 use Rattle.clause_solver.specs.Outcomes.{IsReady}
-use Rattle.clause_solver.proofs.OutcomeFacts.{ready_new, ready_more, ready_searched, refuted, solution, levels_some}
+use Rattle.clause_solver.proofs.OutcomeFacts.{ready_new, ready_more, ready_searched, refuted, solution}
 use Rattle.clause_solver.proofs.solver.solve.Goals as goal
 
 pub stepping-init : goal.stepping-init

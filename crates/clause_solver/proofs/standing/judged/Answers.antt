@@ -1,9 +1,7 @@
-use Rattle.std.proofs.Common.{◌≡◌, ◌≢◌, ◌<◌, Some, None, false, length, get_or, sym, ◌∙◌, ap, arith}
-use Rattle.std.specs.Prelude.{slice_get}
+use Rattle.std.proofs.Common.{false, sym, ◌∙◌, arith}
 use Rattle.std.proofs.lemmas.Option.{slice_get-get_or}
 use Rattle.clause_store.specs.declared.lit.Lit.{Lit}
-use Rattle.clause_store.specs.Signs.{sign_of}
-use Rattle.clause_solver.proofs.StandingFacts.{beq_true, beq_false, IsJudged, judged_true, judged_two, judged_false, judged_open}
+use Rattle.clause_solver.proofs.StandingFacts.{beq_true, beq_false, judged_true, judged_two, judged_false, judged_open}
 use Rattle.clause_solver.proofs.standing.judged.Goals as goal
 use Rattle.clause_solver.proofs.standing.judged.Goals.{in-Some+else-sign-lit, in-None+in-None-found}
 

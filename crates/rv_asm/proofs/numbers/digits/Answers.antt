@@ -1,4 +1,4 @@
-use Rattle.std.proofs.Common.{sym, ◌∙◌, arith}
+use Rattle.std.proofs.Common.{sym, arith}
 use Rattle.rv_asm.proofs.NumberLemmas.{digits_on-more}
 use Rattle.rv_asm.proofs.numbers.digits.Goals as goal
 

@@ -1,5 +1,4 @@
-use Rattle.std.proofs.Common.{◌≡◌, length, sym, ◌∙◌, ap, rules, arith}
-use Rattle.clause_solver.specs.Trails.{IsCoherent}
+use Rattle.std.proofs.Common.{arith}
 use Rattle.clause_solver.proofs.TrailFacts.{tabled_bound, tabled_coherent}
 use Rattle.clause_solver.proofs.trail.Trail.len.Goals as goal
 

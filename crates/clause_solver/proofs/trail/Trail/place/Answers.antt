@@ -1,7 +1,6 @@
-use Rattle.std.proofs.Common.{◌≡◌, is_some, true, length, get_or, sym, ◌∙◌, ap, subst, arith}
+use Rattle.std.proofs.Common.{◌≡◌, is_some, true, get_or, ◌∙◌, arith}
 use Rattle.std.proofs.lemmas.List.{get_or_default}
 use Rattle.clause_store.specs.Signs.{sign_of}
-use Rattle.clause_solver.specs.Trails.{IsPlaceOf}
 use Rattle.clause_solver.proofs.TrailFacts.{place_of, tabled_coherent}
 use Rattle.clause_solver.proofs.SignFacts.{present}
 use Rattle.clause_solver.proofs.TrailFacts.{tabled_range}

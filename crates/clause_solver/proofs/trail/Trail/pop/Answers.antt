@@ -1,7 +1,5 @@
-use Rattle.std.proofs.Common.{◌≡◌, ◌+◌, ◌-◌, ◌<◌, ◌++◌, ◌∷◌, [], length, take, vec_len, sym, ◌∙◌, ap, arith}
+use Rattle.std.proofs.Common.{◌≡◌, ◌+◌, ◌-◌, ◌++◌, ◌∷◌, [], length, take, vec_len, ◌∙◌, ap, arith}
 use Rattle.std.proofs.lemmas.List.{length_push, length-take-le}
-use Rattle.clause_solver.specs.Trails.{IsTabled}
-use Rattle.clause_solver.proofs.SignFacts.{sign_push_same}
 use Rattle.clause_solver.proofs.TrailFacts.{tabled_pop, tabled_last}
 use Rattle.clause_solver.proofs.trail.Trail.pop.Goals as goal
 

@@ -1,6 +1,5 @@
-use Rattle.std.proofs.Common.{◌≡◌, ◌<◌, ◌++◌, ◌∷◌, [], None, Some, false, length, sym, ◌∙◌, ap, arith}
+use Rattle.std.proofs.Common.{◌≡◌, ◌<◌, ◌++◌, ◌∷◌, [], None, Some, false, length, ◌∙◌, arith}
 use Rattle.std.proofs.Math.ListN.{set}
-use Rattle.std.proofs.lemmas.List.{length-set}
 use Rattle.clause_store.specs.Signs.{sign_of}
 use Rattle.clause_solver.specs.Trails.{IsTabled}
 use Rattle.clause_solver.proofs.TrailFacts.{tabled_bound, tabled_push, tabled_coherent}
