@@ -14,7 +14,9 @@ use Rattle.coco_base.specs.declared.setup.Setup.{Setup}
 use Rattle.coco_engine.specs.LabelFile.{labels_from}
 use Rattle.coco_engine.specs.declared.labels.Said.{Said}
 use Rattle.coco_engine.specs.Setups.{setup_of}
-use Rattle.coco_model.specs.Secure.{IsWidelySecure}
+use Rattle.coco_base.specs.declared.finding.Probe.{Probe}
+use Rattle.coco_model.specs.Secure.{IsProbe, IsWidelySecure}
+use Rattle.wide_laws.specs.WideCones.{HidesSecrets}
 use Rattle.wide_cones.specs.Leaks.{IsFirstLeak}
 use Rattle.wide_cones.specs.declared.leak.Leak.{Leak}
 use Rattle.coco_engine.specs.declared.refusal.Refusal.{Refusal}
@@ -33,10 +35,16 @@ pub record Rejects (c : Command) (flat : Flat) (setup : Setup) (text : List ℕ)
   pub leaves : List ℕ
   pub written : text ≡ rejected_text c flat setup.table leak leaves
 
--- this text goes with this status for a netlist and a setup: where the run is accepted, single probes observe the same
--- whatever the secrets are
+-- the report of an accepted run: each probe's structural cone lacks a share of every secret bit, and single probes
+-- observe the same whatever the secrets are
+pub record Accepts (c : Command) (flat : Flat) (setup : Setup) (text : List ℕ) : Type 0 where
+  pub hides : (p : Probe) → IsProbe flat setup c.cycles p → HidesSecrets flat setup p
+  pub secure : IsWidelySecure flat setup c.cycles 1
+  pub written : text ≡ accepted_text c flat setup.table
+
+-- this text goes with this status for a netlist and a setup
 abbrev pub SetupAnswers : Command → Flat → Setup → Status → List ℕ → Type 0
-SetupAnswers c flat setup Accepted text = IsWidelySecure flat setup c.cycles 1 × (text ≡ accepted_text c flat setup.table)
+SetupAnswers c flat setup Accepted text = Accepts c flat setup text
 SetupAnswers c flat setup Rejected text = Rejects c flat setup text
 SetupAnswers c flat setup Undecided text = ⊥
 SetupAnswers c flat setup Refused text = ⊥
