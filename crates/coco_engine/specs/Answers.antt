@@ -15,6 +15,7 @@ use Rattle.coco_engine.specs.LabelFile.{labels_from}
 use Rattle.coco_engine.specs.declared.labels.Said.{Said}
 use Rattle.coco_engine.specs.Setups.{setup_of}
 use Rattle.coco_base.specs.declared.finding.Probe.{Probe}
+use Rattle.coco_model.specs.Reach.{AreConnected}
 use Rattle.coco_model.specs.Secure.{IsProbe, IsWidelySecure}
 use Rattle.wide_laws.specs.WideCones.{HidesSecrets}
 use Rattle.wide_cones.specs.Leaks.{IsFirstLeak}
@@ -28,11 +29,13 @@ use Rattle.netlist_json.specs.Netlist.{netlist_from}
 abbrev pub fault_line : List ℕ → List ℕ
 fault_line name = line_of (codes "read fault ") name (codes "\n")
 
--- the report of a rejected run: a probe whose structural cone holds all shares of a secret bit, the first one
+-- the report of a rejected run: the first probe whose structural cone holds all shares of a secret bit, and the leaves
+-- that it reaches
 pub record Rejects (c : Command) (flat : Flat) (setup : Setup) (text : List ℕ) : Type 0 where
   pub leak : Leak
   pub first : IsFirstLeak flat setup c.cycles leak
   pub leaves : List ℕ
+  pub reached : AreConnected flat setup.clock leak.probe.bit leaves
   pub written : text ≡ rejected_text c flat setup.table leak leaves
 
 -- the report of an accepted run: each probe's structural cone lacks a share of every secret bit, and single probes

@@ -2,7 +2,6 @@
 #![tactic(auto)]
 
 mod labels;
-mod leaves;
 mod names;
 mod reading;
 mod refusal;

@@ -8,7 +8,6 @@ ghost use Rattle.coco_engine.specs.Requests.{shown_command};
 ghost use Rattle.coco_engine.specs.Words.{command, texts};
 
 use crate::labels::read_labels;
-use crate::leaves::reached;
 use crate::reading::{ReadStop, read_whole};
 use crate::refusal::{self, Refusal};
 use crate::report;
@@ -20,7 +19,7 @@ use coco_base::{Failed, Flat, NoMemory, Setup, Shelf, Sink, Status, Text};
 use netlist_facts::built_law;
 use netlist_json::{NetFault, read_netlist};
 use std::alloc::Global;
-use wide_cones::first_leak;
+use wide_cones::{first_leak, reached_leaves};
 use wide_laws::hidden_shares_law;
 
 /// What a call writes, and the status that goes with it.
@@ -60,7 +59,7 @@ fn verdict(alloc: Global, request: &Request, flat: &Flat, setup: &Setup) -> Resu
             text: report::accepted(alloc, request, flat, &setup.table)?,
         });
     };
-    let leaves = reached(alloc, flat, leak.probe.bit)?;
+    let leaves = reached_leaves(alloc, flat, setup, leak.probe.bit)?;
     Ok(Reply {
         status: Status::Rejected,
         text: report::rejected(alloc, request, flat, &setup.table, &leak, leaves.as_slice())?,

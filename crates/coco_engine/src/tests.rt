@@ -171,6 +171,63 @@ fn a_file_outside_the_form_is_refused(rt: HostRuntime) -> Result<(), Fail> {
 }
 
 #[test]
+fn label_lines_outside_the_form_are_refused(rt: HostRuntime) -> Result<(), Fail> {
+    let text = netlist(rt.alloc(), &[KEEP], &["q0", "q1"])?;
+    let files = [
+        "",
+        "\n",
+        "clock clk",
+        "clock clk\r\n",
+        "# of the clock\nclock clk\n",
+        "clock clk # the clock\n",
+        "\nclock clk\n",
+        "clock clk\n\n",
+        " clock clk\n",
+        "clock clk \n",
+        "clock\tclk\n",
+        "clock clk\nsecret a 1 2\nreg q0 a.2\n",
+        "clock clk\nreg q0 a.0\nsecret a 1 2\n",
+    ];
+    for labels in files {
+        let (status, sink) = run(rt.alloc(), text.as_str(), labels, "1")?;
+        assert_eq!(rt; status, Status::Refused);
+        assert_eq!(rt; sink.bytes(), b"refused 190 not built l.txt\n".as_slice());
+    }
+    Ok(())
+}
+
+#[test]
+fn at_most_64_labels_are_taken(rt: HostRuntime) -> Result<(), Fail> {
+    let text = netlist(rt.alloc(), &[KEEP], &["q0", "q1"])?;
+    let mut labels = String::from_str(rt.alloc(), "clock clk\n")?;
+    for mask in 0..64 {
+        labels.push_str(format!(in rt.alloc(); "mask m{mask} 1\n")?.as_str())?;
+    }
+    let (status, sink) = run(rt.alloc(), text.as_str(), labels.as_str(), "1")?;
+    assert_eq!(rt; status, Status::Accepted);
+    let report = b"accepted\norder 1\ncycles 1\nbits 2\nsecret bits 0\nlabels 64\n";
+    assert_eq!(rt; sink.bytes(), report.as_slice());
+    labels.push_str("mask m64 1\n")?;
+    let (status, sink) = run(rt.alloc(), text.as_str(), labels.as_str(), "1")?;
+    assert_eq!(rt; status, Status::Refused);
+    assert_eq!(rt; sink.bytes(), b"refused 190 not built l.txt\n".as_slice());
+    Ok(())
+}
+
+#[test]
+fn at_most_1024_cycles_are_taken(rt: HostRuntime) -> Result<(), Fail> {
+    let text = netlist(rt.alloc(), &[KEEP], &["q0", "q1"])?;
+    let (status, sink) = run(rt.alloc(), text.as_str(), KEPT, "1024")?;
+    assert_eq!(rt; status, Status::Accepted);
+    let report = b"accepted\norder 1\ncycles 1024\nbits 2\nsecret bits 1\nlabels 2\n";
+    assert_eq!(rt; sink.bytes(), report.as_slice());
+    let (status, sink) = run(rt.alloc(), text.as_str(), KEPT, "1025")?;
+    assert_eq!(rt; status, Status::Usage);
+    assert_eq!(rt; sink.bytes(), b"".as_slice());
+    Ok(())
+}
+
+#[test]
 fn a_fault_of_the_shelf_or_the_sink_is_answered(rt: HostRuntime) -> Result<(), Fail> {
     let text = netlist(rt.alloc(), &[KEEP], &["q0", "q1"])?;
     let call = words(rt.alloc(), &["n.json", "l.txt", "1"])?;

@@ -51,9 +51,13 @@ pub data Connects (flat : Flat) (clock : Option ℕ) (leaf : ℕ) : ℕ → Type
       → Contains (wires_of cell) (Bit from)
       → Connects flat clock leaf from → Connects flat clock leaf bit
 
+-- the leaves that a bit reaches by structure alone, in ascending order
+pub record AreConnected (flat : Flat) (clock : Option ℕ) (b : ℕ) (leaves : List ℕ) : Type 0 where
+  pub ascending : IsStrictlyIncreasing leaves
+  pub connected : (leaf : ℕ) → Contains leaves leaf ↔ Connects flat clock leaf b
+
 -- the coarser reach by structure alone: a leaf reaches itself, and a cell's output all that its inputs reach; nothing
 -- blocks a path
-pub record IsWideReach (flat : Flat) (setup : Setup) (cycles : ℕ) (reach : Reach) : Type 0 where
-  pub ascending : (t b : ℕ) → t < cycles → b < flat.bits → IsStrictlyIncreasing (reach t b)
-  pub connected : (t b : ℕ) → t < cycles → b < flat.bits → (leaf : ℕ)
-      → Contains (reach t b) leaf ↔ Connects flat setup.clock leaf b
+abbrev pub IsWideReach : Flat → Setup → ℕ → Reach → Type 0
+IsWideReach flat setup cycles reach =
+    (t b : ℕ) → t < cycles → b < flat.bits → AreConnected flat setup.clock b (reach t b)

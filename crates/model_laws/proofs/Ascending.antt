@@ -1,8 +1,9 @@
 -- Ascending lists of numbers: one for its members, and one for each test.
-use Rattle.std.proofs.Common.{◌≡◌, ℕ, zero, suc, ◌+◌, ◌<◌, ◌≤◌, ◌⊎◌, inl, inr, List, [], ◌∷◌, get_or, refl, sym, subst, arith}
+use Rattle.std.proofs.Common.{◌≡◌, ℕ, zero, suc, ◌+◌, ◌<◌, ◌≤◌, ◌⊎◌, inl, inr, List, [], ◌∷◌, ◌++◌, get_or, refl, sym, subst, arith}
 use Rattle.std.specs.Prelude.{Contains}
 use Rattle.std.specs.List.Sorted.{IsStrictlyIncreasing}
 use Rattle.std.proofs.lemmas.Bool.{cases_eq}
+use Rattle.std.proofs.lemmas.List.Elements.{Contains-push_cases}
 use Rattle.coco_model.proofs.Basics.{Contains-here, Contains-later, Contains-cases, Contains-none}
 
 -- ascending, by head and tail
@@ -107,3 +108,17 @@ list_of P decide first (suc count) = go (decide first) (list_of P decide (suc fi
         later : (l : ℕ) → first ≤ l → l < first + suc count → P l → (first ≡ l) ⊎ (first ≡ l → ⊥) → Contains (first ∷ r.listed) l
         later l low high q (inl e) = subst (Contains (first ∷ r.listed)) e (Contains-here first r.listed)
         later l low high q (inr apart) = Contains-later first l r.listed (r.complete l (omega arith) (omega arith) q)
+
+-- a higher number at the end
+pub ascending_push : (xs : List ℕ) (x : ℕ) → ((l : ℕ) → Contains xs l → l < x) → IsStrictlyIncreasing xs → IsStrictlyIncreasing (xs ++ x ∷ [])
+ascending_push [] x below up = λ k within. absurd (omega arith)
+ascending_push (y ∷ ys) x below up =
+    ascending_cons y (ys ++ x ∷ []) (λ l h. above l (Contains-push_cases ys x l h))
+    (ascending_push ys x (λ l h. below l (Contains-later y l ys h)) parts.rest)
+  where
+    parts : IsAscending y ys
+    parts = ascending_parts y ys up
+
+    above : (l : ℕ) → Contains ys l ⊎ (x ≡ l) → y < l
+    above l (inl i) = parts.above l i
+    above l (inr e) = subst (λ k. y < k) e (below y (Contains-here y ys))

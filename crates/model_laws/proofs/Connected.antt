@@ -136,8 +136,7 @@ pub wide_reach_exists : (flat : Flat) (setup : Setup) (cycles : ℕ) (rank : ℕ
     → HasWideReach flat setup cycles
 wide_reach_exists flat setup cycles rank ranked range = record {
   reach = λ t b. (lists b).listed;
-  connects =
-      record { ascending = λ t b below inside. (lists b).up; connected = λ t b below inside leaf. (there b leaf, back b inside leaf) };
+  connects = λ t b below inside. record { ascending = (lists b).up; connected = λ leaf. (there b leaf, back b inside leaf) };
 }
   where
     lists : (b : ℕ) → HasList (λ leaf. Connects flat setup.clock leaf b) 0 flat.bits

@@ -55,6 +55,6 @@ one_reach_law flat setup cycles rank ranked bound reach other r s t b below insi
 pub one_wide_reach_law : OneWideReachLaw
 unfolding OneWideReachLaw
 one_wide_reach_law flat setup cycles reach other r s t b below inside =
-    same_ascending (reach t b) (other t b) (r.ascending t b below inside) (s.ascending t b below inside)
-    (λ l h. (s.connected t b below inside l).1 ((r.connected t b below inside l).0 h))
-    (λ l h. (r.connected t b below inside l).1 ((s.connected t b below inside l).0 h))
+    same_ascending (reach t b) (other t b) (r t b below inside).ascending (s t b below inside).ascending
+    (λ l h. ((s t b below inside).connected l).1 (((r t b below inside).connected l).0 h))
+    (λ l h. ((r t b below inside).connected l).1 (((s t b below inside).connected l).0 h))

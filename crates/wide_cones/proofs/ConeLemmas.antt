@@ -113,26 +113,33 @@ flop_value flat one g leaves row leaf spread f listed =
     at_map g (h ∷ fs) zero f e = ap g (let p : h ≡ f = cc in p)
     at_map g (h ∷ fs) (suc i) f e = at_map g fs i f e
 
--- what holds of the flops with a value, and goes from what a cell reads to its output, holds of the bits of a row
+-- what holds of the bits of the leaves, and goes from what a cell reads to its output, holds of the bits of a row that is spread
+pub spread_sound : (flat : Flat) (setup : Setup) → IsReady flat setup → (P : ℕ → Type 0) (leaves row : List Bool) → IsSpread flat leaves row
+    → ((b : ℕ) → (IsCellBit flat b → ⊥) → held leaves b ≡ true → P b)
+    → ((c : FlatCell) → Contains flat.cells c → (b : ℕ) → Contains (wires_of c) (Bit b) → P b → P c.output)
+    → (b : ℕ) → held row b ≡ true → P b
+spread_sound flat setup ready P leaves row spread leaf_case cells =
+    by_rank flat (λ b. b) (λ b. held row b ≡ true → P b) ready.run.ranked
+    (λ b no_cell h. leaf_case b no_cell (sym (spread.others b no_cell) ∙ h)) (record {
+      cells = λ c listed lower h.
+          let w = held_among row (wires_of c) (sym (spread.cells c listed) ∙ h) in
+          cells c listed w.bit w.listed (lower w.bit w.listed w.holds);
+    })
+
+-- the same where the leaves are the flops with a value
 pub row_sound : (flat : Flat) (setup : Setup) → IsReady flat setup → (P : ℕ → Type 0) (g : FlatFlop → Bool) (leaves row : List Bool) → IsLeafRow flat (map g flat.flops) leaves → IsSpread flat leaves row
     → ((f : FlatFlop) → Contains flat.flops f → g f ≡ true → P f.output)
     → ((c : FlatCell) → Contains flat.cells c → (b : ℕ) → Contains (wires_of c) (Bit b) → P b → P c.output)
     → (b : ℕ) → held row b ≡ true → P b
 row_sound flat setup ready P g leaves row leaf spread flops cells =
-    by_rank flat (λ b. b) (λ b. held row b ≡ true → P b) ready.run.ranked leaf_case (record {
-      cells = λ c listed lower h.
-          let w = held_among row (wires_of c) (sym (spread.cells c listed) ∙ h) in
-          cells c listed w.bit w.listed (lower w.bit w.listed w.holds);
-    })
+    spread_sound flat setup ready P leaves row spread (λ b no_cell h. leaf_case b no_cell h (flop_bit_or_not flat b)) cells
   where
-    leaf_case : (b : ℕ) → (IsCellBit flat b → ⊥) → held row b ≡ true → P b
-    leaf_case b no_cell h = go (flop_bit_or_not flat b)
-      where
-        go : IsFlopBit flat b ⊎ (IsFlopBit flat b → ⊥) → P b
-        go (inl i) =
-            let s = some_from_any (λ (f : FlatFlop). f.output ≡ b) flat.flops i in
-            subst P s.holds (flops s.member s.listed (sym (flop_value flat ready.one g leaves row leaf spread s.member s.listed) ∙ ap (held row) s.holds ∙ h))
-        go (inr none) = absurd (false≢true (sym (leaf.others b none) ∙ sym (spread.others b no_cell) ∙ h))
+    leaf_case : (b : ℕ) → (IsCellBit flat b → ⊥) → held leaves b ≡ true → IsFlopBit flat b ⊎ (IsFlopBit flat b → ⊥) → P b
+    leaf_case b no_cell h (inl i) =
+        let s = some_from_any (λ (f : FlatFlop). f.output ≡ b) flat.flops i in
+        subst P s.holds (flops s.member s.listed
+        (sym (flop_value flat ready.one g leaves row leaf spread s.member s.listed) ∙ ap (held row) s.holds ∙ spread.others b no_cell ∙ h))
+    leaf_case b no_cell h (inr none) = absurd (false≢true (sym (leaf.others b none) ∙ h))
 
 -- the row of a first cycle
 same_label : (table : LabelTable) (l : ℕ) (start : Start) → is_label l start ≡ true → start_state roots table 0 start ≡ label l
@@ -215,6 +222,30 @@ flop_leaf flat setup ready f listed = record {
         (Contains-append_left (option_to_list setup.clock ++ map (λ (p : InputPlan). p.bit) setup.inputs) (map (λ (e : EchoPlan). e.bit) setup.echoes) f.output
         (Contains-append_left (option_to_list setup.clock) (map (λ (p : InputPlan). p.bit) setup.inputs) f.output (clock_in setup.clock e)))
 
+-- in such a run an input port has the clock alone
+pub leaf_flop : (flat : Flat) (setup : Setup) → IsReady flat setup → (leaf : ℕ) → IsLeaf flat setup.clock leaf → IsFlopBit flat leaf
+leaf_flop flat setup ready leaf is = go is.driven
+  where
+    clock_alone : (o : Option ℕ) → Contains (option_to_list o) leaf → o ≡ Some leaf
+    clock_alone None i = absurd (Contains-none leaf i)
+    clock_alone (Some x) i = one (Contains-cases x leaf [] i)
+      where
+        one : (x ≡ leaf) ⊎ Contains [] leaf → Some x ≡ Some leaf
+        one (inl e) = ap Some e
+        one (inr i) = absurd (Contains-none leaf i)
+
+    bound : bound_bits setup ≡ option_to_list setup.clock
+    bound = rw (ready.run.no_inputs, ready.run.no_echoes, ready.run.no_memories) (grind (arith, common_steps))
+
+    go : IsFlopBit flat leaf ⊎ IsInputBit flat leaf → IsFlopBit flat leaf
+    go (inl i) = i
+    go (inr i) = absurd (is.no_clock (clock_alone setup.clock (subst (λ bits. Contains bits leaf) bound (ready.run.bound.each leaf i))))
+
+-- what a walk ends at
+pub leaf_of_walk : (flat : Flat) (clock : Option ℕ) (leaf b : ℕ) → Connects flat clock leaf b → IsLeaf flat clock leaf
+leaf_of_walk flat clock leaf b (here is) = is
+leaf_of_walk flat clock leaf b (through bit c from listed e read walk) = leaf_of_walk flat clock leaf from walk
+
 -- the cone of a probe, with its bit as a variable
 pub record IsShown (flat : Flat) (setup : Setup) (l t b : ℕ) : Type 0 where
   pub leaf : ℕ
@@ -228,7 +259,7 @@ pub probe_row : (flat : Flat) (setup : Setup) → IsReady flat setup → (l t : 
 probe_row flat setup ready l t old now leaves row cone_old cone_now leaf spread = record {
   as_long = spread.as_long ∙ leaf.as_long;
   sound = λ b h. let s = shown b h in record { leaf = s.leaf; connected = s.connected; cycle = s.cycle; when = s.when; member = s.member };
-  complete = λ b h. upwards h.leaf b h.connected (leaf_held h.leaf h.cycle h.when h.member (leaf_of_walk h.leaf b h.connected));
+  complete = λ b h. upwards h.leaf b h.connected (leaf_held h.leaf h.cycle h.when h.member (leaf_of_walk flat setup.clock h.leaf b h.connected));
 }
   where
     flop_shown : (f : FlatFlop) → Contains flat.flops f → (held old f.output ≡ true) ⊎ (held now f.output ≡ true) → IsShown flat setup l t f.output
@@ -245,10 +276,6 @@ probe_row flat setup ready l t old now leaves row cone_old cone_now leaf spread 
     upwards x b (through bit c source listed e read walk) h =
         ap (held row) (sym e) ∙ spread.cells c listed ∙ among_held row (wires_of c) source read (upwards x source walk h)
 
-    leaf_of_walk : (x b : ℕ) → Connects flat setup.clock x b → IsLeaf flat setup.clock x
-    leaf_of_walk x b (here is_leaf) = is_leaf
-    leaf_of_walk x b (through bit c source listed e read walk) = leaf_of_walk x source walk
-
     flop_held : (f : FlatFlop) → Contains flat.flops f → (cycle : ℕ) → (cycle ≡ t) ⊎ (cycle ≡ before t) → IsInWideCone flat setup l cycle f.output → held row f.output ≡ true
     flop_held f listed cycle (inl e) h =
         flop_value flat ready.one (shown_test old now) leaves row leaf spread f listed
@@ -257,21 +284,10 @@ probe_row flat setup ready l t old now leaves row cone_old cone_now leaf spread 
         flop_value flat ready.one (shown_test old now) leaves row leaf spread f listed
         ∙ or_left (held old f.output) (held now f.output) (cone_old.complete f.output (subst (λ c. IsInWideCone flat setup l c f.output) e h))
 
-    input_flop : (x cycle : ℕ) → IsInWideCone flat setup l cycle x → IsInputBit flat x → IsFlopBit flat x
-    input_flop x cycle (starts bit f listed e s) i = any_from_member (λ (g : FlatFlop). g.output ≡ x) flat.flops f listed e
-    input_flop x cycle (moves u bit source f listed e at h) i = any_from_member (λ (g : FlatFlop). g.output ≡ x) flat.flops f listed e
-    input_flop x cycle (passes u bit source c listed e read h) i = absurd (cell_no_input flat ready.one c listed (subst (IsInputBit flat) (sym e) i))
-
     leaf_held : (x cycle : ℕ) → (cycle ≡ t) ⊎ (cycle ≡ before t) → IsInWideCone flat setup l cycle x → IsLeaf flat setup.clock x → held row x ≡ true
-    leaf_held x cycle when h is_leaf = go is_leaf.driven
-      where
-        by_flop : IsFlopBit flat x → held row x ≡ true
-        by_flop i = let s = some_from_any (λ (g : FlatFlop). g.output ≡ x) flat.flops i in
-            ap (held row) (sym s.holds) ∙ flop_held s.member s.listed cycle when (subst (IsInWideCone flat setup l cycle) (sym s.holds) h)
-
-        go : IsFlopBit flat x ⊎ IsInputBit flat x → held row x ≡ true
-        go (inl i) = by_flop i
-        go (inr i) = by_flop (input_flop x cycle h i)
+    leaf_held x cycle when h is_leaf =
+        let s = some_from_any (λ (g : FlatFlop). g.output ≡ x) flat.flops (leaf_flop flat setup ready x is_leaf) in
+        ap (held row) (sym s.holds) ∙ flop_held s.member s.listed cycle when (subst (IsInWideCone flat setup l cycle) (sym s.holds) h)
 
 pub written_back : (n : ℕ) (new old : List Bool) → n ≡ length old → length new ≡ length old → take n (new ++ drop (length new) old) ≡ new
 written_back n new old e f = grind (arith, common_steps, e, f)

@@ -17,7 +17,7 @@ pub record IsLeafRowTo (flat : Flat) (values row : List Bool) (done : ℕ) : Typ
   pub flops : (index : ℕ) (f : FlatFlop) → index < done → slice_get flat.flops index ≡ Some f → held row f.output ≡ held values index
   pub others : (b : ℕ) → (IsFlopBit flat b → ⊥) → held row b ≡ false
 
-all_false : (n b : ℕ) → get_or (replicate {A = Bool} n false) b false ≡ false
+pub all_false : (n b : ℕ) → get_or (replicate {A = Bool} n false) b false ≡ false
 all_false zero b = refl
 all_false (suc n) zero = refl
 all_false (suc n) (suc b) = all_false n b

@@ -5,3 +5,4 @@ pub mod ConeLemmas
 pub mod SecretLemmas
 pub mod CycleLemmas
 pub mod LeakLemmas
+pub mod ReachLemmas

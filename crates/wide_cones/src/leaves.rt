@@ -24,7 +24,8 @@ pub fn leaf_row(alloc: Global, flat: &Flat, values: &[bool]) -> Result<Vec<bool>
     Ok(row)
 }
 
-fn nothing(alloc: Global, bits: usize) -> Result<Vec<bool>, NoMemory>
+/// A row that has no bit.
+pub fn nothing(alloc: Global, bits: usize) -> Result<Vec<bool>, NoMemory>
     ensures { IfOk result (λ row. row.items ≡ replicate bits false) }
 {
     Ok(vec![in alloc; false; bits]?)

@@ -1,11 +1,12 @@
-//! Structural cones of a run whose leaves are flops, label by label, and the first probe whose cone holds all shares of
-//! a secret bit.
+//! Structural cones of a run whose leaves are flops, label by label, the first probe whose cone holds all shares of a
+//! secret bit, and the leaves that a bit reaches.
 #![tactic(auto)]
 
 mod cycle;
 mod gates;
 mod leak;
 mod leaves;
+mod reach;
 mod rows;
 mod run;
 mod search;
@@ -13,4 +14,5 @@ mod secrets;
 mod spreading;
 
 pub use leak::Leak;
+pub use reach::reached_leaves;
 pub use run::first_leak;

@@ -113,7 +113,7 @@ hidden_shares flat rank setup cycles run hides reach wide runs memory are probes
         (are.each (flips turn.labels c)) (are.each c) t below leaf
         (λ l held. bit-flips turn.labels c l (λ i. turn.good_each l i p listed (record {
           leaf = leaf;
-          connected = (wide.connected p.cycle p.bit (each p listed).cycle (each p listed).bit leaf).0 reached;
+          connected = ((wide p.cycle p.bit (each p listed).cycle (each p listed).bit).connected leaf).0 reached;
           cycle = t;
           when = when;
           member = held;
