@@ -14,7 +14,8 @@ use Rattle.coco_model.specs.Secure.{IsSecure, IsSecureFor, observation, count_sh
 use Rattle.coco_model.specs.SecureInTime.{waveforms, same_waveforms, count_waving, IsSecureInTime}
 use Rattle.coco_model.proofs.Basics.{Contains-here, Contains-later, Contains-cases, Contains-none}
 use Rattle.model_laws.proofs.Calms.{waveform_law}
-use Rattle.model_laws.specs.Laws.{IsChecked, HasMeaning, WaveformLaw}
+use Rattle.coco_model.specs.Meaning.{HasMeaning}
+use Rattle.model_laws.specs.Laws.{IsChecked, WaveformLaw}
 use Rattle.walsh_laws.specs.Security.{InTimeLaw}
 use Rattle.walsh_laws.proofs.Ready.{checked_of, meaning_of, simulated_by}
 use Rattle.walsh_laws.proofs.Choices.{count, count-cong, filtered_twice}

@@ -18,7 +18,7 @@ use Rattle.coco_model.specs.Secure.{IsProbe, count_showing}
 use Rattle.coco_model.specs.Findings.{Labels, IsSeen}
 use Rattle.model_laws.proofs.Calms.{vary_or_not}
 use Rattle.coco_model.proofs.Keepers.{before_below}
-use Rattle.model_laws.specs.Laws.{HasMeaning}
+use Rattle.coco_model.specs.Meaning.{HasMeaning}
 use Rattle.walsh_laws.specs.Sums.{parity_below}
 use Rattle.walsh_laws.specs.Laws.{is_odd, IsShownSet, IsUncorrelated, count_with_values, CountingLaw}
 use Rattle.walsh_laws.specs.Security.{IsSimulated, is_odd_in_run, IsRunUncorrelated, RunCountingLaw}
