@@ -16,7 +16,9 @@ pub mod Ready
 pub mod RunCorrelation
 pub mod RunCounting
 pub mod NoFinding
+pub mod Determined
 pub mod InTime
+pub mod Narrow
 pub mod GateLives
 pub mod RootCones
 pub mod OneFinding
