@@ -1,6 +1,10 @@
 pub mod Basics
 pub mod Walks
 pub mod Keepers
+pub mod Bits
+pub mod Signs
+pub mod Choices
+pub mod LivePlaces
 mod Circuits
 mod Pulses
 mod Unshared
