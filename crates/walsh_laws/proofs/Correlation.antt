@@ -13,7 +13,7 @@ use Rattle.coco_model.specs.Nodes.{IsNodeSet}
 use Rattle.walsh_laws.specs.Sums.{parity_below}
 use Rattle.walsh_laws.specs.NodeValues.{input_values, AreOperandsBefore, IsGateValue, IsNodeValue, AreNodeValues}
 use Rattle.walsh_laws.specs.Laws.{is_odd, IsSelected, CorrelationLaw}
-use Rattle.walsh_laws.proofs.Bits.{xor-swap, xor-assoc, xor-comm, xor-twice, signed-xor, signed-zero}
+use Rattle.coco_model.proofs.Bits.{xor-swap, xor-assoc, xor-comm, xor-twice, signed-xor, signed-zero}
 use Rattle.walsh_laws.proofs.Totals.{total, total-cong, total-signed, sign_total-choices}
 use Rattle.walsh_laws.proofs.Parity.{differs, same, parity-cong, parity-xor, parity_one, picked, parity_picked, label_parity, label_parity-xor, label_parity_one, label_parity-below, total_label}
 use Rattle.walsh_laws.proofs.GateStep.{signed_total, signed_total-signs, IsGateStep, gate_step}

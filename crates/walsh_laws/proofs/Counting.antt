@@ -13,10 +13,10 @@ use Rattle.coco_model.proofs.Basics.{Contains-here, Contains-later}
 use Rattle.walsh_laws.specs.Sums.{parity_below}
 use Rattle.walsh_laws.specs.NodeValues.{IsNodeValue, AreNodeValues}
 use Rattle.walsh_laws.specs.Laws.{is_odd, IsShownSet, IsUncorrelated, count_with_values, CountingLaw}
-use Rattle.walsh_laws.proofs.Bits.{xor-assoc, xor-swap, and-xor_right, signed-xor, signed-zero, and-false}
+use Rattle.coco_model.proofs.Bits.{xor-assoc, xor-swap, and-xor_right, signed-xor, signed-zero, and-false}
 use Rattle.walsh_laws.proofs.Totals.{total, total-cong, total-signed, sign_total-choices}
 use Rattle.walsh_laws.proofs.Parity.{differs, parity-cong, parity-xor, parity_one, parity_none, picked, label_parity-below}
-use Rattle.walsh_laws.proofs.Choices.{count, count-cong, filtered_twice}
+use Rattle.coco_model.proofs.Choices.{count, count-cong, filtered_twice}
 use Rattle.walsh_laws.proofs.Counts.{IsBalanced, balanced-cong, balanced_from_total, values_of, balanced_showing, equal_counts}
 use Rattle.walsh_laws.proofs.WholeSets.{labels_of, label_parity_of, whole_set, whole_label, HasLabel}
 

@@ -17,7 +17,7 @@ use Rattle.model_laws.proofs.Calms.{waveform_law}
 use Rattle.model_laws.specs.Laws.{IsChecked, HasMeaning, WaveformLaw}
 use Rattle.walsh_laws.specs.Security.{InTimeLaw}
 use Rattle.walsh_laws.proofs.Ready.{checked_of, meaning_of, simulated_by}
-use Rattle.walsh_laws.proofs.Choices.{count, count-cong, filtered_twice}
+use Rattle.coco_model.proofs.Choices.{count, count-cong, filtered_twice}
 use Rattle.walsh_laws.proofs.Counts.{values_of, equal_determined}
 
 -- what a probe shows of leaves

@@ -6,7 +6,7 @@ use Rattle.std.proofs.lemmas.Bool.Decides.{nat_tests}
 use Rattle.coco_model.specs.Cells.{xor, signed, chosen_parity}
 use Rattle.coco_model.specs.Labels.{Choice, label_bit}
 use Rattle.walsh_laws.specs.Sums.{parity_below}
-use Rattle.walsh_laws.proofs.Bits.{xor-false, xor-four, xor-swap, and-xor, and-xor_right, and-false, signed-xor}
+use Rattle.coco_model.proofs.Bits.{xor-false, xor-four, xor-swap, and-xor, and-xor_right, and-false, signed-xor}
 use Rattle.walsh_laws.proofs.Totals.{total, total-cong, total-neg}
 
 pub parity-cong : (n : ℕ) (U V : ℕ → Bool) (v w : ℕ → Bool) → ((i : ℕ) → i < n → U i ≡ V i) → ((i : ℕ) → i < n → v i ≡ w i)

@@ -22,7 +22,7 @@ use Rattle.model_laws.specs.Laws.{HasMeaning}
 use Rattle.walsh_laws.specs.Sums.{parity_below}
 use Rattle.walsh_laws.specs.Laws.{is_odd, IsShownSet, IsUncorrelated, count_with_values, CountingLaw}
 use Rattle.walsh_laws.specs.Security.{IsSimulated, is_odd_in_run, IsRunUncorrelated, RunCountingLaw}
-use Rattle.walsh_laws.proofs.Totals.{sign_total-cong}
+use Rattle.coco_model.proofs.Signs.{sign_total-cong}
 use Rattle.walsh_laws.proofs.Parity.{parity-cong_members}
 use Rattle.walsh_laws.proofs.Counting.{counting_law}
 use Rattle.walsh_laws.proofs.Numbering.{number_count, number-inside, at_number, at_number-number}

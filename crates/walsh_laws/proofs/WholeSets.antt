@@ -12,7 +12,7 @@ use Rattle.coco_model.specs.Labels.{Choice, label_bit, parity, secret_labels, sh
 use Rattle.coco_model.specs.Findings.{Labels, IsWhole}
 use Rattle.coco_model.proofs.Basics.{Contains-here, Contains-later, Contains-cases, Contains-none}
 use Rattle.model_laws.proofs.Lists.{IsImage, image_of_map, IsJoined, joined_of_flat_map, contains_or_not}
-use Rattle.walsh_laws.proofs.Bits.{xor-false, and-false, and-true}
+use Rattle.coco_model.proofs.Bits.{xor-false, and-false, and-true}
 use Rattle.walsh_laws.proofs.Parity.{differs, same, label_parity, label_parity-xor, label_parity_none, label_parity_one}
 
 -- the labels in a list, by their number
