@@ -4,6 +4,7 @@ pub mod Keepers
 pub mod Bits
 pub mod Signs
 pub mod Choices
+pub mod ListedLabels
 pub mod LivePlaces
 mod Circuits
 mod Pulses
