@@ -6,7 +6,7 @@ use Rattle.std.proofs.lemmas.Bool.{true≢false, false≢true, cases_Bool, or_pa
 use Rattle.coco_base.specs.declared.cell.Kind.{Kind}
 use Rattle.coco_base.specs.declared.cell.Part.{Part}
 use Rattle.coco_base.specs.declared.cell.Part.TheVariants.{Zero, One, Vary}
-use Rattle.coco_model.specs.Cells.{xor, output_of, Allows, AllowsAll, IsForced, IsLiveInput, Subset, IsSubsetOf, signed, sign_total, chosen_parity, allowed_inputs}
+use Rattle.coco_model.specs.Cells.{xor, AllowsAll, IsForced, IsLiveInput, Subset, IsSubsetOf, signed, sign_total, chosen_parity, allowed_inputs}
 use Rattle.coco_model.proofs.LivePlaces.{IsLivePlace, behind}
 use Rattle.cell_table.specs.Sums.{sum_of}
 use Rattle.cell_table.proofs.Sums.{sum-zero, sum-one, sum-vary}

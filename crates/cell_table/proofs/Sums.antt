@@ -1,12 +1,12 @@
 -- Signed sums, place by place.
-use Rattle.std.proofs.Common.{◌≡◌, ℕ, zero, suc, ◌+◌, ◌*◌, ◌^◌, ◌<◌, ◌≤◌, Bool, true, false, ◌&&◌, List, [], ◌∷◌, ◌++◌, map, length, take, drop, get_or, set, refl, sym, ◌∙◌, ap, arith, ℤ, pos, ◌+ℤ◌, append_assoc, nat_eq, ◌%◌, ◌/◌, ◌-◌, lit≤, mul_comm, add-one, pow-suc, subst}
+use Rattle.std.proofs.Common.{◌≡◌, ℕ, zero, suc, ◌+◌, ◌*◌, ◌^◌, ◌<◌, ◌≤◌, Bool, true, false, List, [], ◌∷◌, ◌++◌, map, length, take, drop, get_or, set, refl, sym, ◌∙◌, ap, arith, ℤ, ◌+ℤ◌, append_assoc, nat_eq, ◌%◌, ◌/◌, ◌-◌, lit≤, mul_comm, add-one, pow-suc, subst}
 use Rattle.std.proofs.lemmas.Grind.{common_steps}
 use Rattle.std.proofs.lemmas.Int.{ints}
 use Rattle.coco_base.specs.declared.cell.Kind.{Kind}
 use Rattle.coco_base.specs.declared.cell.Kind.TheVariants.{Buf, Not, And, Nand, Or, Nor, Xor, Xnor, AndNot, OrNot, Mux, Nmux, Aoi3, Oai3, Aoi4, Oai4}
 use Rattle.coco_base.specs.declared.cell.Part.{Part}
 use Rattle.coco_base.specs.declared.cell.Part.TheVariants.{Zero, One, Vary}
-use Rattle.coco_model.specs.Cells.{output_of, input_count, xor, signed, subset_of_number, Subset, sign_total, chosen_parity, allowed_inputs}
+use Rattle.coco_model.specs.Cells.{output_of, input_count, xor, signed, subset_of_number, Subset, chosen_parity, allowed_inputs}
 use Rattle.coco_model.proofs.Bits.{xor-swap, and-false, and-true}
 use Rattle.coco_model.proofs.Signs.{sign_total-append, sign_total-map, sign_total-cong, sign_total-signed}
 use Rattle.cell_table.specs.Sums.{sum_of, partial_sum, joined_sum, IsWithin}

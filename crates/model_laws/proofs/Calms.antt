@@ -1,5 +1,5 @@
 -- Calm bits keep still, and bits whose reached leaves agree show one waveform, under every schedule of gate events.
-use Rattle.std.proofs.Common.{◌≡◌, ◌≢◌, ℕ, zero, suc, ◌<◌, ◌⊎◌, inl, inr, Bool, true, false, cond, nat_eq, List, [], ◌∷◌, map, get_or, set, refl, sym, ◌∙◌, ap, subst}
+use Rattle.std.proofs.Common.{◌≡◌, ◌≢◌, ℕ, zero, suc, ◌<◌, ◌⊎◌, inl, inr, Bool, true, false, cond, nat_eq, List, [], ◌∷◌, map, get_or, refl, sym, ◌∙◌, ap, subst}
 use Rattle.std.specs.Prelude.{Contains, slice_get, Option, Some, None}
 use Rattle.std.proofs.Math.ListN.{get_or-map}
 use Rattle.std.proofs.lemmas.Bool.{cases_Bool, eqb-true}
@@ -10,7 +10,7 @@ use Rattle.coco_base.specs.declared.netlist.FlatCell.{FlatCell}
 use Rattle.coco_base.specs.declared.setup.Setup.{Setup}
 use Rattle.coco_base.specs.declared.netlist.Wire.{Wire}
 use Rattle.coco_base.specs.declared.netlist.Wire.TheVariants.{Const, Bit}
-use Rattle.coco_model.specs.Cells.{output_of, Allows, AllowsAll}
+use Rattle.coco_model.specs.Cells.{output_of, Allows}
 use Rattle.coco_model.specs.Netlist.{Valuation, wires_of, wire_value, cell_value, IsSettled, IsRanked, IsCellBit}
 use Rattle.coco_model.specs.Labels.{Choice}
 use Rattle.coco_model.specs.Run.{Memory, IsRun, before}

@@ -9,7 +9,7 @@ use Rattle.coco_base.specs.declared.labels.LabelTable.{LabelTable}
 use Rattle.coco_base.specs.declared.setup.Setup.{Setup}
 use Rattle.coco_base.specs.declared.finding.Probe.{Probe}
 use Rattle.coco_model.specs.Netlist.{Valuation}
-use Rattle.coco_model.specs.Labels.{Choice, choices, label_count, share_label, share_labels, secret_labels, mask_labels, secret_bits, same_bits, IsLabelTable}
+use Rattle.coco_model.specs.Labels.{Choice, label_count, share_label, share_labels, secret_labels, mask_labels, secret_bits, same_bits, IsLabelTable}
 use Rattle.coco_model.specs.Run.{before}
 use Rattle.coco_model.specs.Reach.{Reach}
 use Rattle.coco_model.specs.Secure.{IsProbe, observation, IsSecureFor, IsWidelySecure}
