@@ -233,7 +233,7 @@ reaches_or_not flat rank calm leaf ranked = by_measure rank (λ b. Reaches flat 
             inl (through b s.member t.number t.holds.from s.listed s.holds.drives varies t.holds.live t.holds.wired t.holds.rest)
 
 -- a reached leaf is a bit of the netlist
-reached_below : (flat : Flat) (calm : Row) (leaf b : ℕ) → IsInRange flat → Reaches flat calm leaf b → b < flat.bits → leaf < flat.bits
+pub reached_below : (flat : Flat) (calm : Row) (leaf b : ℕ) → IsInRange flat → Reaches flat calm leaf b → b < flat.bits → leaf < flat.bits
 reached_below flat calm leaf b range (here none varies) inside = inside
 reached_below flat calm leaf b range (through bit c place from listed drives varies live wired rest) inside =
     reached_below flat calm leaf from range rest (range.inputs c listed (Bit from) (member_at (wires_of c) place from wired))
