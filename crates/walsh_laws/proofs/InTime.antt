@@ -14,16 +14,14 @@ use Rattle.coco_model.specs.Secure.{IsSecure, IsSecureFor, observation, count_sh
 use Rattle.coco_model.specs.SecureInTime.{waveforms, same_waveforms, count_waving, IsSecureInTime}
 use Rattle.coco_model.proofs.Basics.{Contains-here, Contains-later, Contains-cases, Contains-none}
 use Rattle.model_laws.proofs.Calms.{waveform_law}
+use Rattle.model_laws.proofs.Securely.{shown}
 use Rattle.model_laws.specs.Laws.{IsChecked, HasMeaning, WaveformLaw}
 use Rattle.walsh_laws.specs.Security.{InTimeLaw}
 use Rattle.walsh_laws.proofs.Ready.{checked_of, meaning_of, simulated_by}
-use Rattle.walsh_laws.proofs.Choices.{count, count-cong, filtered_twice}
+use Rattle.coco_model.proofs.Choices.{count, count-cong, filtered_twice}
 use Rattle.walsh_laws.proofs.Counts.{values_of, equal_determined}
 
--- what a probe shows of leaves
-abbrev shown : (ℕ → Valuation) → ℕ → List ℕ → List Bool
-shown v t leaves = flat_map (λ l. v (before t) l ∷ v t l ∷ []) leaves
-
+-- two runs agree on leaves, in a cycle and in that before
 abbrev AgreeOn : (ℕ → Valuation) → (ℕ → Valuation) → ℕ → List ℕ → Type 0
 AgreeOn v w t leaves = (l : ℕ) → Contains leaves l → (v (before t) l ≡ w (before t) l) × (v t l ≡ w t l)
 

@@ -1,4 +1,3 @@
-pub mod Bits
 pub mod Totals
 pub mod Parity
 pub mod GateStep
@@ -17,7 +16,6 @@ pub mod RunCorrelation
 pub mod RunCounting
 pub mod NoFinding
 pub mod InTime
-pub mod GateLives
 pub mod RootCones
 pub mod OneFinding
 pub mod Cover
