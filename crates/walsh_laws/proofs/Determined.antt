@@ -9,13 +9,10 @@ use Rattle.coco_model.specs.Labels.{Choice, choices_with, label_count, secret_bi
 use Rattle.coco_model.specs.Run.{before}
 use Rattle.coco_model.specs.Reach.{Reach}
 use Rattle.coco_model.specs.Secure.{observation, count_showing}
-use Rattle.coco_model.proofs.Basics.{Contains-cases, Contains-none}
-use Rattle.walsh_laws.proofs.Choices.{count, count-cong, filtered_twice}
+use Rattle.coco_model.proofs.Choices.{count, count-cong, filtered_twice}
+use Rattle.coco_model.proofs.Basics.{Contains-here, Contains-later, Contains-cases, Contains-none}
+use Rattle.model_laws.proofs.Securely.{shown}
 use Rattle.walsh_laws.proofs.Counts.{values_of, equal_determined}
-
--- what a probe shows of leaves
-abbrev pub shown : (ℕ → Valuation) → ℕ → List ℕ → List Bool
-shown v t leaves = flat_map (λ l. v (before t) l ∷ v t l ∷ []) leaves
 
 -- runs have the same old and new values of leaves
 abbrev pub AgreeOn : (ℕ → Valuation) → (ℕ → Valuation) → ℕ → List ℕ → Type 0
@@ -56,6 +53,22 @@ same_observed reach v w (q ∷ probes) e p h =
         → AgreeOn v w p.cycle (reach p.cycle p.bit)
     go r (inl i) rest = subst (λ (x : Probe). AgreeOn v w x.cycle (reach x.cycle x.bit)) i r.0
     go r (inr i) rest = rest r.1 i
+
+agreed_shown : (v w : ℕ → Valuation) (t : ℕ) (leaves : List ℕ) → AgreeOn v w t leaves → shown v t leaves ≡ shown w t leaves
+agreed_shown v w t [] agree = refl
+agreed_shown v w t (l ∷ leaves) agree =
+    let first = agree l (Contains-here l leaves) in
+    let rest = agreed_shown v w t leaves (λ k h. agree k (Contains-later l k leaves h)) in
+    cc
+
+-- probes observe the same in runs that agree on the leaves that they reach
+pub agreed_observed : (reach : Reach) (v w : ℕ → Valuation) (probes : List Probe)
+    → ((p : Probe) → Contains probes p → AgreeOn v w p.cycle (reach p.cycle p.bit)) → observation reach v probes ≡ observation reach w probes
+agreed_observed reach v w [] agree = refl
+agreed_observed reach v w (p ∷ probes) agree =
+    ap (λ bits. bits ++ observation reach v probes) (agreed_shown v w p.cycle (reach p.cycle p.bit) (agree p (Contains-here p probes)))
+    ∙ ap (λ bits. shown w p.cycle (reach p.cycle p.bit) ++ bits)
+    (agreed_observed reach v w probes (λ q h. agree q (Contains-later p q probes h)))
 
 -- the tests of what probes observe
 abbrev leaf_tests : (Choice → ℕ → Valuation) → ℕ → List ℕ → List (Choice → Bool)

@@ -1,4 +1,3 @@
-pub mod Bits
 pub mod Totals
 pub mod Parity
 pub mod GateStep
@@ -19,7 +18,6 @@ pub mod NoFinding
 pub mod Determined
 pub mod InTime
 pub mod Narrow
-pub mod GateLives
 pub mod RootCones
 pub mod OneFinding
 pub mod Cover

@@ -1,36 +1,16 @@
 -- Security for the coarser reach is security, since what probes observe by structure determines what they observe where
 -- calm bits block.
-use Rattle.std.proofs.Common.{◌≡◌, ℕ, List, [], ◌∷◌, ◌++◌, refl, ◌∙◌, ap}
-use Rattle.std.specs.Prelude.{Contains}
-use Rattle.coco_base.specs.declared.finding.Probe.{Probe}
+use Rattle.std.proofs.Common.{◌≡◌, ℕ, ap}
 use Rattle.coco_base.specs.declared.netlist.Flat.{Flat}
 use Rattle.coco_base.specs.declared.setup.Setup.{Setup}
-use Rattle.coco_model.specs.Netlist.{Valuation}
 use Rattle.coco_model.specs.Labels.{Choice, same_bits}
 use Rattle.coco_model.specs.Reach.{Reach, IsReach, IsWideReach}
 use Rattle.coco_model.specs.Secure.{observation, IsSecureFor, IsSecure, IsWidelySecure}
-use Rattle.coco_model.proofs.Basics.{Contains-here, Contains-later}
 use Rattle.model_laws.proofs.Connected.{HasWideReach, wide_reach_exists}
 use Rattle.model_laws.proofs.Narrow.{narrow_reach_law}
 use Rattle.model_laws.specs.Laws.{NarrowReachLaw}
 use Rattle.walsh_laws.specs.Security.{NarrowLaw}
-use Rattle.walsh_laws.proofs.Determined.{AgreeOn, shown, same_observed, equally_often}
-
-agreed_shown : (v w : ℕ → Valuation) (t : ℕ) (leaves : List ℕ) → AgreeOn v w t leaves → shown v t leaves ≡ shown w t leaves
-agreed_shown v w t [] agree = refl
-agreed_shown v w t (l ∷ leaves) agree =
-    let first = agree l (Contains-here l leaves) in
-    let rest = agreed_shown v w t leaves (λ k h. agree k (Contains-later l k leaves h)) in
-    cc
-
--- runs that agree on what probes reach show the same
-agreed_observed : (reach : Reach) (v w : ℕ → Valuation) (probes : List Probe)
-    → ((p : Probe) → Contains probes p → AgreeOn v w p.cycle (reach p.cycle p.bit)) → observation reach v probes ≡ observation reach w probes
-agreed_observed reach v w [] agree = refl
-agreed_observed reach v w (p ∷ probes) agree =
-    ap (λ bits. bits ++ observation reach v probes) (agreed_shown v w p.cycle (reach p.cycle p.bit) (agree p (Contains-here p probes)))
-    ∙ ap (λ bits. shown w p.cycle (reach p.cycle p.bit) ++ bits)
-    (agreed_observed reach v w probes (λ q h. agree q (Contains-later p q probes h)))
+use Rattle.walsh_laws.proofs.Determined.{agreed_observed, same_observed, equally_often}
 
 -- for one coarser reach
 narrow : (flat : Flat) (setup : Setup) (cycles : ℕ) (wide : Reach) → IsWideReach flat setup cycles wide
