@@ -5,8 +5,10 @@ use Rattle.coco_base.specs.declared.cell.Kind.{Kind}
 use Rattle.coco_base.specs.declared.cell.Part.{Part}
 use Rattle.coco_base.specs.declared.setup.Setup.{Setup}
 use Rattle.coco_base.specs.declared.finding.Probe.{Probe}
+use Rattle.coco_base.specs.declared.finding.Finding.{Finding}
 use Rattle.coco_base.specs.declared.unrolled.Node.{Node}
 use Rattle.coco_base.specs.declared.unrolled.Node.TheVariants.{Nothing, Gate}
+use Rattle.coco_base.specs.LabelSets.{has}
 use Rattle.coco_model.specs.Labels.{parity}
 use Rattle.coco_model.specs.Known.{Row}
 use Rattle.coco_model.specs.Reach.{Reach}
@@ -61,6 +63,15 @@ pub record IsWrittenFinding (flat : Flat) (setup : Setup) (cycles d : ℕ) (inde
     (nodes : List Node) (probes pairs : List Probe) (numbers : List ℕ) (sets : ℕ → Labels) : Type 0 where
   pub candidate : IsCandidate flat setup cycles d row reach nodes probes pairs numbers sets
   pub leaks : IsLeakingSet setup (set_of_nodes index sets pairs)
+
+-- a value is a finding: with its probes, pairs and choices it is a written finding, and its set is the one that its pairs
+-- have by these choices
+pub record IsFindingValue (flat : Flat) (setup : Setup) (cycles d : ℕ) (index : ℕ → ℕ → ℕ) (row : ℕ → Row) (reach : Reach)
+    (nodes : List Node) (finding : Finding) : Type 0 where
+  pub sets : ℕ → Labels
+  pub written :
+      IsWrittenFinding flat setup cycles d index row reach nodes finding.probes finding.seen finding.selection.choices sets
+  pub set : (l : ℕ) → has finding.set l ≡ set_of_nodes index sets finding.seen l
 
 -- a written finding exists, with 0 at each node that is no gate
 pub record HasWrittenFinding (flat : Flat) (setup : Setup) (cycles d : ℕ) (index : ℕ → ℕ → ℕ) (row : ℕ → Row) (reach : Reach)
