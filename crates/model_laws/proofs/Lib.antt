@@ -17,6 +17,7 @@ pub mod Solved
 pub mod Sources
 pub mod Exists
 pub mod Meanings
+pub mod Settling
 pub mod Noded
 pub mod Selected
 pub mod Securely

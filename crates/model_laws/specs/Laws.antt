@@ -6,7 +6,7 @@ use Rattle.coco_base.specs.declared.setup.MemPlan.{MemPlan}
 use Rattle.coco_base.specs.declared.setup.Setup.{Setup}
 use Rattle.coco_base.specs.declared.unrolled.Node.{Node}
 use Rattle.coco_model.specs.Cells.{Allows}
-use Rattle.coco_model.specs.Netlist.{Valuation, IsSettled, IsRanked, HasOneDriver, IsInRange, IsCellBit}
+use Rattle.coco_model.specs.Netlist.{Valuation, IsSettled, IsRanked, HasOneDriver, IsInRange, IsInputBit, IsFlopBit, IsCellBit}
 use Rattle.coco_model.specs.Labels.{Choice, label_count}
 use Rattle.coco_model.specs.Carried.{is_read, word_address, stores, IsBound, AreStarts, IsLabelled}
 use Rattle.coco_model.specs.Run.{Memory, IsRun, AreRuns, before}
@@ -27,6 +27,17 @@ unfoldable pub OneSettledLaw : Type 0
 OneSettledLaw =
     (flat : Flat) (rank : ℕ → ℕ) (v w : Valuation) → IsRanked flat rank → IsSettled flat v → IsSettled flat w
     → ((b : ℕ) → (IsCellBit flat b → ⊥) → v b ≡ w b) → (b : ℕ) → v b ≡ w b
+
+-- a settled valuation with given values of the bits that input ports and flops drive
+pub record HasSettled (flat : Flat) (leaves : Valuation) : Type 0 where
+  pub valuation : Valuation
+  pub settled : IsSettled flat valuation
+  pub agrees : (b : ℕ) → IsFlopBit flat b ⊎ IsInputBit flat b → valuation b ≡ leaves b
+
+-- a netlist without loops and with one driver for each bit has a settled valuation for all values of the bits that input
+-- ports and flops drive
+unfoldable pub SomeSettledLaw : Type 0
+SomeSettledLaw = (flat : Flat) (rank : ℕ → ℕ) → IsRanked flat rank → HasOneDriver flat → (leaves : Valuation) → HasSettled flat leaves
 
 -- two rows that are forced and agree on the bits that no cell drives are one
 unfoldable pub OneForcedLaw : Type 0
