@@ -1,12 +1,10 @@
 -- Settled valuations exist.
 use Rattle.std.proofs.Common.{◌≡◌, ℕ, ◌⊎◌, inl, inr, Bool, false, refl, sym, ◌∙◌, subst}
-use Rattle.std.specs.Prelude.{Contains}
-use Rattle.std.proofs.lemmas.Bool.{cases_eq}
 use Rattle.coco_base.specs.declared.netlist.Flat.{Flat}
 use Rattle.coco_base.specs.declared.netlist.FlatFlop.{FlatFlop}
-use Rattle.coco_model.specs.Netlist.{Valuation, cell_value, IsRanked, HasOneDriver, IsUndriven, IsInputBit, IsFlopBit, IsCellBit, input_bits}
-use Rattle.coco_model.proofs.Basics.{IsSome, some_from_any, any_from_member}
-use Rattle.model_laws.proofs.Lists.{some_or_none, contains_or_not}
+use Rattle.coco_model.specs.Netlist.{Valuation, cell_value, IsRanked, HasOneDriver, IsUndriven, IsInputBit, IsFlopBit, IsCellBit}
+use Rattle.coco_model.proofs.Basics.{some_from_any}
+use Rattle.model_laws.proofs.Ranks.{flop_bit_or_not, input_bit_or_not}
 use Rattle.model_laws.proofs.Sources.{input_no_cell, flop_no_cell}
 use Rattle.model_laws.proofs.Solved.{HasStates, states_exist}
 use Rattle.model_laws.proofs.Meanings.{value_reads}
@@ -17,18 +15,16 @@ abbrev IsGivenBit : Flat → ℕ → Type 0
 IsGivenBit flat b = IsFlopBit flat b ⊎ IsInputBit flat b
 
 given_or_not : (flat : Flat) (b : ℕ) → IsGivenBit flat b ⊎ (IsGivenBit flat b → ⊥)
-given_or_not flat b =
-    go (some_or_none (λ (f : FlatFlop). f.output ≡ b) (λ f. cases_eq f.output b) flat.flops) (contains_or_not (input_bits flat) b)
+given_or_not flat b = go (flop_bit_or_not flat b) (input_bit_or_not flat b)
   where
-    go : IsSome (λ (f : FlatFlop). f.output ≡ b) flat.flops ⊎ ((f : FlatFlop) → Contains flat.flops f → f.output ≡ b → ⊥)
-        → IsInputBit flat b ⊎ (IsInputBit flat b → ⊥) → IsGivenBit flat b ⊎ (IsGivenBit flat b → ⊥)
-    go (inl s) input = inl (inl (any_from_member (λ (f : FlatFlop). f.output ≡ b) flat.flops s.member s.listed s.holds))
-    go (inr none) (inl i) = inl (inr i)
-    go (inr none) (inr no_input) = inr neither
+    go : IsFlopBit flat b ⊎ (IsFlopBit flat b → ⊥) → IsInputBit flat b ⊎ (IsInputBit flat b → ⊥)
+        → IsGivenBit flat b ⊎ (IsGivenBit flat b → ⊥)
+    go (inl flop) input = inl (inl flop)
+    go (inr no_flop) (inl input) = inl (inr input)
+    go (inr no_flop) (inr no_input) = inr neither
       where
         neither : IsGivenBit flat b → ⊥
-        neither (inl flop) =
-            let s = some_from_any (λ (f : FlatFlop). f.output ≡ b) flat.flops flop in none s.member s.listed s.holds
+        neither (inl flop) = no_flop flop
         neither (inr input) = no_input input
 
 given_no_cell : (flat : Flat) → HasOneDriver flat → (b : ℕ) → IsGivenBit flat b → IsCellBit flat b → ⊥
