@@ -20,4 +20,5 @@ pub mod Meanings
 pub mod Settling
 pub mod Noded
 pub mod Selected
+pub mod Coned
 pub mod Securely

@@ -1,5 +1,5 @@
 -- The laws of runs, as facts that contracts name.
-use Rattle.std.specs.Prelude.{◌≡◌, ◌≢◌, ℕ, ◌<◌, ◌≤◌, Bool, true, List, [], ◌++◌, map, Contains, ◌⊎◌}
+use Rattle.std.specs.Prelude.{◌≡◌, ◌≢◌, ℕ, ◌<◌, ◌≤◌, Bool, true, List, [], ◌++◌, map, Contains, ◌⊎◌, ◌↔◌}
 use Rattle.coco_base.specs.declared.netlist.Flat.{Flat}
 use Rattle.coco_base.specs.declared.cell.Part.TheVariants.{Vary}
 use Rattle.coco_base.specs.declared.setup.MemPlan.{MemPlan}
@@ -21,6 +21,7 @@ use Rattle.coco_model.specs.Roots.{Root, IsRooted, root_value}
 use Rattle.coco_model.specs.Roots.Root.{nothing, label, output}
 use Rattle.coco_model.specs.Findings.{Labels, IsSelection}
 use Rattle.coco_model.specs.Nodes.{LeadsTo, IsNodeSet, AreNodesOf, IsUnrolled}
+use Rattle.coco_model.specs.Cones.{IsInRootCone, IsInCone}
 
 -- two settled valuations that agree on the bits that no cell drives are one
 unfoldable pub OneSettledLaw : Type 0
@@ -249,6 +250,13 @@ RootSetsLaw =
     → ((t b s c : ℕ) → t < cycles → root t b ≡ output s c → s ≤ t)
     → (sets : ℕ → Labels) → AreNodeSets flat cycles index nodes sets
     → HasSelection flat cycles index row root sets
+
+-- a label is in the cone of a node exactly where it is in the cone of the root that the node stands for
+unfoldable pub ConesLaw : Type 0
+ConesLaw =
+    (flat : Flat) (cycles : ℕ) (index : ℕ → ℕ → ℕ) (row : ℕ → Row) (root : ℕ → ℕ → Root) (nodes : ℕ → Node)
+    → AreNodesOf flat cycles index row root nodes → IsInRange flat → HasOneDriver flat
+    → (t b l : ℕ) → t < cycles → b < flat.bits → IsInCone nodes l (index t b) ↔ IsInRootCone flat row root l (root t b)
 
 -- a run that is secure for its one calm-blocked reach is secure
 unfoldable pub SecureLaw : Type 0
