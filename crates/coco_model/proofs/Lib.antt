@@ -4,3 +4,4 @@ pub mod Keepers
 mod Circuits
 mod Pulses
 mod Unshared
+mod Masked

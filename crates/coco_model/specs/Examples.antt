@@ -1,10 +1,11 @@
 -- Small circuits, with which the definitions can be computed by hand.
-use Rattle.std.specs.Prelude.{ℕ, zero, suc, false, true, List, [], ◌∷◌, map, length, ℤ, Some, None, Contains, ◌↔◌}
+use Rattle.std.specs.Prelude.{ℕ, zero, suc, Bool, false, true, List, [], ◌∷◌, map, length, get_or, ℤ, Some, None, Contains, ◌↔◌}
 use Rattle.std.specs.List.{range_with_len}
 use Rattle.coco_base.specs.declared.text.Text.{Text}
 use Rattle.coco_base.specs.declared.cell.Kind.{Kind}
 use Rattle.coco_base.specs.declared.cell.Kind.TheVariants.{And, Xor, Mux}
 use Rattle.coco_base.specs.declared.cell.Part.{Part}
+use Rattle.coco_base.specs.declared.cell.Part.TheVariants.{Zero, Vary}
 use Rattle.coco_base.specs.declared.netlist.Flat.{Flat}
 use Rattle.coco_base.specs.declared.netlist.FlatCell.{FlatCell}
 use Rattle.coco_base.specs.declared.netlist.FlatFlop.{FlatFlop}
@@ -15,9 +16,15 @@ use Rattle.coco_base.specs.declared.labels.LabelTable.{LabelTable}
 use Rattle.coco_base.specs.declared.setup.Start.{Start}
 use Rattle.coco_base.specs.declared.setup.Start.TheVariants.{Public, Label}
 use Rattle.coco_base.specs.declared.setup.InputPlan.{InputPlan}
+use Rattle.coco_base.specs.declared.setup.MemPlan.{MemPlan}
+use Rattle.coco_base.specs.declared.setup.When.{When}
+use Rattle.coco_base.specs.declared.setup.ControlPlan.{ControlPlan}
 use Rattle.coco_base.specs.declared.setup.Setup.{Setup}
+use Rattle.coco_base.specs.declared.unrolled.Node.{Node}
+use Rattle.coco_base.specs.declared.unrolled.Node.TheVariants.{Nothing, Label as LabelNode, Copy, Gate}
 use Rattle.coco_model.specs.Cells.{signed_sum, subset_of_number}
 use Rattle.coco_model.specs.Netlist.{Valuation}
+use Rattle.coco_model.specs.Known.{Row}
 use Rattle.coco_model.specs.Reach.{Reach}
 
 -- the signed sums of a gate at the subsets with the first numbers, so many
@@ -130,3 +137,52 @@ abbrev pub inputs_high : Valuation
 inputs_high zero = true
 inputs_high (suc zero) = true
 inputs_high (suc (suc b)) = false
+
+-- what is known of the bits of a list, and 0 of all others
+abbrev pub known_bits : List Part → Row
+known_bits parts b = get_or parts b Zero
+
+-- a memory port whose request is bit 1, with a write at bit 2, one byte enable at bit 3 and these address wires
+abbrev pub memory_port : List Wire → MemPlan
+memory_port address = record {
+  request = Bit 1;
+  write = Some (Bit 2);
+  enables = Bit 3 ∷ [];
+  address = address;
+  value = [];
+  answer = [];
+}
+
+-- a setup with that port, whose address is bit 4
+abbrev pub setup_with_port : Text → Setup
+setup_with_port name = record (setup_of name 1 [] []) { memories = memory_port (Bit 4 ∷ []) ∷ [] }
+
+abbrev pub control : Text → ℕ → When → ControlPlan
+control name bit when = record { name = name; wire = Bit bit; when = when }
+
+-- so many wires of one constant
+abbrev pub constants : ℕ → Bool → List Wire
+constants zero b = []
+constants (suc n) b = Const b ∷ constants n b
+
+-- a flop whose reset is bit 2, active at this level
+abbrev pub resettable : Text → Bool → FlatFlop
+resettable name level = record (keeper name 1) { reset = Some (Bit 2); level = level }
+
+-- the nodes of two cycles of w = XOR(q0, n), r = FLOP(w), y = XOR(r, q1), where the flops q0, q1 and n keep their labels
+-- 0, 1 and 2, r starts at 0, and the bits are, in this order, the clock, q0, q1, n, w, r and y
+abbrev pub masked_nodes : List Node
+masked_nodes =
+    Nothing ∷ LabelNode 0 ∷ LabelNode 1 ∷ LabelNode 2 ∷ Gate Xor (Vary ∷ Vary ∷ Zero ∷ Zero ∷ []) (1 ∷ 3 ∷ 0 ∷ 0 ∷ []) ∷ Nothing
+    ∷ Gate Xor (Zero ∷ Vary ∷ Zero ∷ Zero ∷ []) (0 ∷ 2 ∷ 0 ∷ 0 ∷ [])
+    ∷ Nothing ∷ Copy 1 ∷ Copy 2 ∷ Copy 3 ∷ Copy 4 ∷ Copy 4 ∷ Gate Xor (Vary ∷ Vary ∷ Zero ∷ Zero ∷ []) (12 ∷ 9 ∷ 0 ∷ 0 ∷ [])
+    ∷ []
+
+-- their cones
+abbrev pub masked_cones : ℕ → List ℕ
+masked_cones i =
+    get_or
+    ([] ∷ (0 ∷ []) ∷ (1 ∷ []) ∷ (2 ∷ []) ∷ (0 ∷ 2 ∷ []) ∷ [] ∷ (1 ∷ [])
+    ∷ [] ∷ (0 ∷ []) ∷ (1 ∷ []) ∷ (2 ∷ []) ∷ (0 ∷ 2 ∷ []) ∷ (0 ∷ 2 ∷ []) ∷ (0 ∷ 1 ∷ 2 ∷ [])
+    ∷ [])
+    i []
