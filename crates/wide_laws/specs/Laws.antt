@@ -1,4 +1,4 @@
--- The law of the first commands.
+-- The law of structural cones that lack a share of every secret bit.
 use Rattle.std.specs.Prelude.{◌≡◌, ℕ, []}
 use Rattle.coco_base.specs.declared.netlist.Flat.{Flat}
 use Rattle.coco_base.specs.declared.setup.Setup.{Setup}
