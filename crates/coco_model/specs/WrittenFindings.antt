@@ -73,12 +73,12 @@ pub record IsFindingValue (flat : Flat) (setup : Setup) (cycles d : ℕ) (index 
       IsWrittenFinding flat setup cycles d index row reach nodes finding.probes finding.seen finding.selection.choices sets
   pub set : (l : ℕ) → has finding.set l ≡ set_of_nodes index sets finding.seen l
 
--- a written finding exists, with 0 at each node that is no gate
+-- a try exists whose set shows a leak: a written finding with 0 at each node that is no gate
 pub record HasWrittenFinding (flat : Flat) (setup : Setup) (cycles d : ℕ) (index : ℕ → ℕ → ℕ) (row : ℕ → Row) (reach : Reach)
     (nodes : List Node) : Type 0 where
   pub probes : List Probe
   pub pairs : List Probe
   pub numbers : List ℕ
   pub sets : ℕ → Labels
-  pub finding : IsWrittenFinding flat setup cycles d index row reach nodes probes pairs numbers sets
-  pub elsewhere : AreZeroElsewhere nodes numbers
+  pub is_try : IsTry flat setup cycles d row reach nodes probes pairs numbers sets
+  pub leaks : IsLeakingSet setup (set_of_nodes index sets pairs)

@@ -154,7 +154,7 @@ module _ (flat : Flat) (setup : Setup) (cycles : ℕ) (rank : ℕ → ℕ) (row 
         pairs = us.probes;
         numbers = numbers;
         sets = sets;
-        finding = record {
+        is_try = record {
           candidate = record {
             some = let e = ps.as_long in let k = h.finding.some in omega arith;
             most = let e = ps.as_long in let k = h.finding.most in omega arith;
@@ -165,13 +165,13 @@ module _ (flat : Flat) (setup : Setup) (cycles : ℕ) (rank : ℕ → ℕ) (row 
                 record { probe = s.probe; listed = ps.into s.probe s.listed; shows = s.shows; unknown = s.unknown };
             selection = node_selection;
           };
-          leaks = record {
-            member = h.finding.member;
-            not_empty = same h.finding.member ∙ h.finding.not_empty;
-            whole = subst (IsWhole setup.table) (fun_ext (λ l. sym (same l))) h.finding.whole;
-          };
+          elsewhere = record { zero = λ i below n. let k = number_is i below in k.1 ∙ (number_at i k.0).elsewhere n };
         };
-        elsewhere = record { zero = λ i below n. let k = number_is i below in k.1 ∙ (number_at i k.0).elsewhere n };
+        leaks = record {
+          member = h.finding.member;
+          not_empty = same h.finding.member ∙ h.finding.not_empty;
+          whole = subst (IsWhole setup.table) (fun_ext (λ l. sym (same l))) h.finding.whole;
+        };
       }
         where
           same : (l : ℕ) → set_of_nodes index sets us.probes l ≡ set_of_pairs root h.set_of h.pairs l
