@@ -5,3 +5,4 @@ mod Circuits
 mod Pulses
 mod Unshared
 mod Masked
+mod MaskedRun

@@ -1,18 +1,22 @@
 //! The definitions at small circuits: each function's contract is what they say there, as worked out by hand.
-ghost use Rattle.std.specs.Prelude.{◌≡◌, true, false, [], ◌∷◌, ◌++◌, pos, negsuc};
+ghost use Rattle.std.specs.Prelude.{◌≡◌, ℕ, ◌<◌, true, false, [], ◌∷◌, ◌++◌, get_or, pos, negsuc};
 ghost use Rattle.coco_base.specs.declared.text.Text.{Text};
 ghost use Rattle.coco_base.specs.declared.cell.Kind.TheVariants.{And, Xor, Mux};
 ghost use Rattle.coco_base.specs.declared.cell.Part.TheVariants.{Zero, One, Vary};
 ghost use Rattle.coco_base.specs.declared.netlist.Wire.TheVariants.{Const};
 ghost use Rattle.coco_base.specs.declared.setup.When.TheVariants.{Always, Requested, Written};
 ghost use Rattle.coco_model.specs.Controls.{IsUnknownControl, IsResetActive, IsInRegion, IsOutside};
-ghost use Rattle.coco_model.specs.Nodes.{node_number};
+ghost use Rattle.coco_base.specs.declared.unrolled.Node.TheVariants.{Nothing};
+ghost use Rattle.coco_model.specs.Known.{IsKnown};
+ghost use Rattle.coco_model.specs.Roots.{IsRooted};
+ghost use Rattle.coco_model.specs.Roots.Root.{nothing};
+ghost use Rattle.coco_model.specs.Nodes.{node_number, IsUnrolled};
 ghost use Rattle.coco_model.specs.Cones.{AreCones, run_weight};
 ghost use Rattle.coco_model.specs.Events.{waveform};
 ghost use Rattle.coco_model.specs.Events.Event.{leaf, cell};
 ghost use Rattle.coco_model.specs.Reach.{Reach, IsReach};
 ghost use Rattle.coco_model.specs.Findings.{HasFinding};
-ghost use Rattle.coco_model.specs.Examples.{signed_sums, inputs_high, two_input_xor, selected_shares, selected_setup, IsSelectedReach, pulsing_gate, pulsing_setup, IsPulsingReach, one_register, unshared_setup, known_bits, setup_with_port, control, constants, memory_port, resettable, masked_nodes, masked_cones};
+ghost use Rattle.coco_model.specs.Examples.{signed_sums, inputs_high, two_input_xor, selected_shares, selected_setup, IsSelectedReach, pulsing_gate, pulsing_setup, IsPulsingReach, one_register, unshared_setup, known_bits, setup_with_port, control, constants, memory_port, resettable, masked_register, masked_setup, masked_row, masked_root, masked_node, masked_nodes, masked_cones};
 
 /// The signed sums of an AND at the subsets of its inputs: none, A, B, and both.
 pub fn and_sums()
@@ -99,8 +103,20 @@ pub fn node_numbers()
     ensures second { node_number 7 (λ b. b) 1 6 ≡ 13 }
 {}
 
-/// The weight of two cycles of a masked share that is stored in a register: 7 bits in 2 cycles at order 1 make 28, and
-/// the cones of labels and gates have 1, 1, 1, 2, 1 and 3 labels.
+/// What is known, the roots and the nodes of two cycles of a masked share that is stored in a register: in the second
+/// cycle the register has the root of the gate before it, that gate keeps its root, and the gate behind it has a new one.
+pub fn masked_run()
+    ensures known { (name : Text) → IsKnown (masked_register name) (masked_setup name) 2 masked_row (λ t address k. Zero) }
+    ensures roots { (name : Text) →
+        IsRooted (masked_register name) (masked_setup name) 2 masked_row masked_root (λ t address k. nothing) }
+    ensures nodes { (name : Text) →
+        IsUnrolled (masked_register name) (masked_setup name) 2 (node_number 7 (λ b. b)) masked_row masked_root masked_node
+        (λ t address k. Nothing) }
+    ensures numbers { (t b : ℕ) → t < 2 → b < 7 → get_or masked_nodes (node_number 7 (λ b. b) t b) Nothing ≡ masked_node t b }
+{}
+
+/// The weight of these two cycles: 7 bits in 2 cycles at order 1 make 28, and the cones of labels and gates have 1, 1, 1,
+/// 2, 1 and 3 labels.
 pub fn masked_weight()
     ensures cones { AreCones masked_nodes masked_cones }
     ensures weight { run_weight 7 2 1 masked_nodes masked_cones ≡ 37 }
