@@ -190,7 +190,7 @@ EndLaw =
     → ((b : ℕ) → (IsCellBit flat b → ⊥) → Contains leaves b ⊎ (old b ≡ new b)) → IsCellOrder flat [] order
     → (b : ℕ) → after_events flat new old (map leaf leaves ++ map cell order) b ≡ new b
 
--- the nodes of a run stand for its roots
+-- numbered nodes of the bits of a run stand for its roots
 unfoldable pub UnrolledLaw : Type 0
 UnrolledLaw =
     (flat : Flat) (setup : Setup) (cycles : ℕ) (rank : ℕ → ℕ) (row : ℕ → Row) (word : ℕ → ℕ → Row)
@@ -198,8 +198,8 @@ UnrolledLaw =
     → IsInRange flat
     → (root : ℕ → ℕ → Root) (rooted : ℕ → ℕ → ℕ → Root) → IsRooted flat setup cycles row root rooted
     → (index : ℕ → ℕ → ℕ) → ((t b s c : ℕ) → b < flat.bits → c < flat.bits → index t b ≡ index s c → (t ≡ s) × (b ≡ c))
-    → (nodes : ℕ → Node) (node_word : ℕ → ℕ → ℕ → Node)
-    → IsUnrolled flat setup cycles index row root (λ t b. nodes (index t b)) node_word
+    → (node : ℕ → ℕ → Node) (node_word : ℕ → ℕ → ℕ → Node) → IsUnrolled flat setup cycles index row root node node_word
+    → (nodes : ℕ → Node) → ((t b : ℕ) → t < cycles → b < flat.bits → nodes (index t b) ≡ node t b)
     → AreNodesOf flat cycles index row root nodes
 
 -- nodes that stand for the roots: two that lead to one origin have one root, and one whose root is an output leads to
