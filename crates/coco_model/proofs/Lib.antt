@@ -4,5 +4,6 @@ pub mod Keepers
 mod Circuits
 mod Pulses
 mod Unshared
+mod UnsharedValue
 mod Masked
 mod MaskedRun

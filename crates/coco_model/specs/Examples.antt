@@ -20,6 +20,7 @@ use Rattle.coco_base.specs.declared.setup.MemPlan.{MemPlan}
 use Rattle.coco_base.specs.declared.setup.When.{When}
 use Rattle.coco_base.specs.declared.setup.ControlPlan.{ControlPlan}
 use Rattle.coco_base.specs.declared.setup.Setup.{Setup}
+use Rattle.coco_base.specs.declared.finding.Finding.{Finding}
 use Rattle.coco_base.specs.declared.unrolled.Node.{Node}
 use Rattle.coco_base.specs.declared.unrolled.Node.TheVariants.{Nothing, Label as LabelNode, Copy, Gate}
 use Rattle.coco_model.specs.Cells.{signed_sum, subset_of_number}
@@ -122,6 +123,19 @@ pulsing_setup name = setup_of name 2 (Public false ∷ Public false ∷ Public f
 -- the flop holds the one share of a secret
 abbrev pub unshared_setup : Text → Setup
 unshared_setup name = setup_of name 1 (Public false ∷ Label 0 ∷ []) []
+
+-- the finding there as a value, with a set of labels: the probe of the flop in cycle 0, which shows the flop
+abbrev pub unshared_value : List ℕ → Finding
+unshared_value labels = record {
+  probes = record { bit = 1; cycle = 0 } ∷ [];
+  seen = record { bit = 1; cycle = 0 } ∷ [];
+  selection = record { choices = 0 ∷ 0 ∷ [] };
+  set = labels;
+}
+
+-- what the flop and the clock reach
+abbrev pub unshared_reach : Reach
+unshared_reach t b = get_or ([] ∷ (1 ∷ []) ∷ []) b []
 
 -- y = MUX(q0, q1, s) reaches q0 while s stays 0, all three while s changes, and q1 while s stays 1
 pub record IsSelectedReach (reach : Reach) : Type 0 where

@@ -6,7 +6,7 @@ ghost use Rattle.coco_base.specs.declared.cell.Part.TheVariants.{Zero, One, Vary
 ghost use Rattle.coco_base.specs.declared.netlist.Wire.TheVariants.{Const};
 ghost use Rattle.coco_base.specs.declared.setup.When.TheVariants.{Always, Requested, Written};
 ghost use Rattle.coco_model.specs.Controls.{IsUnknownControl, IsResetActive, IsInRegion, IsOutside};
-ghost use Rattle.coco_base.specs.declared.unrolled.Node.TheVariants.{Nothing};
+ghost use Rattle.coco_base.specs.declared.unrolled.Node.TheVariants.{Nothing, Label};
 ghost use Rattle.coco_model.specs.Known.{IsKnown};
 ghost use Rattle.coco_model.specs.Roots.{IsRooted};
 ghost use Rattle.coco_model.specs.Roots.Root.{nothing};
@@ -16,7 +16,8 @@ ghost use Rattle.coco_model.specs.Events.{waveform};
 ghost use Rattle.coco_model.specs.Events.Event.{leaf, cell};
 ghost use Rattle.coco_model.specs.Reach.{Reach, IsReach};
 ghost use Rattle.coco_model.specs.Findings.{HasFinding};
-ghost use Rattle.coco_model.specs.Examples.{signed_sums, inputs_high, two_input_xor, selected_shares, selected_setup, IsSelectedReach, pulsing_gate, pulsing_setup, IsPulsingReach, one_register, unshared_setup, known_bits, setup_with_port, control, constants, memory_port, resettable, masked_register, masked_setup, masked_row, masked_root, masked_node, masked_nodes, masked_cones};
+ghost use Rattle.coco_model.specs.WrittenFindings.{IsFindingValue};
+ghost use Rattle.coco_model.specs.Examples.{signed_sums, inputs_high, two_input_xor, selected_shares, selected_setup, IsSelectedReach, pulsing_gate, pulsing_setup, IsPulsingReach, one_register, unshared_setup, unshared_value, unshared_reach, known_bits, setup_with_port, control, constants, memory_port, resettable, masked_register, masked_setup, masked_row, masked_root, masked_node, masked_nodes, masked_cones};
 
 /// The signed sums of an AND at the subsets of its inputs: none, A, B, and both.
 pub fn and_sums()
@@ -57,6 +58,16 @@ pub fn pulsing_reach()
 /// A secret of one share in a register is a finding of order 1.
 pub fn unshared_secret()
     ensures { (name : Text) → HasFinding (one_register name) (unshared_setup name) 1 1 }
+{}
+
+/// That finding as a value: with the set of label 0 it is one, and with the empty set it is none.
+pub fn unshared_finding_value()
+    ensures value { (name : Text) →
+        IsFindingValue (one_register name) (unshared_setup name) 1 1 (node_number 2 (λ b. b)) (λ t. known_bits (Zero ∷ Vary ∷ []))
+        unshared_reach (Nothing ∷ Label 0 ∷ []) (unshared_value (0 ∷ [])) }
+    ensures other { (name : Text) →
+        IsFindingValue (one_register name) (unshared_setup name) 1 1 (node_number 2 (λ b. b)) (λ t. known_bits (Zero ∷ Vary ∷ []))
+        unshared_reach (Nothing ∷ Label 0 ∷ []) (unshared_value []) → ⊥ }
 {}
 
 /// The edges of the memory's two regions: from 0 to 0x3fff, and from 0x10000 to 0x10fff.
