@@ -176,8 +176,8 @@ secret_below table name shares are =
 -- a table with one more mask of the next label
 pub one_more_mask : (old new : LabelTable) (name : List ℕ) → IsLabelTable old → new.secrets ≡ old.secrets
     → new.masks ≡ old.masks ++ next_mask old name ∷ [] → new.fresh ≡ old.fresh → new.declared ≡ old.declared + 1
-    → new.per_cycle ≡ old.per_cycle → IsLabelTable new
-one_more_mask old new name is secrets masks fresh declared per_cycle =
+    → new.per_cycle ≡ old.per_cycle → old.declared + 1 ≤ 4096 → IsLabelTable new
+one_more_mask old new name is secrets masks fresh declared per_cycle few =
     let same : new ≡ with_mask old name =
     λ i. record { secrets = secrets i; masks = masks i; fresh = fresh i; declared = declared i; per_cycle = per_cycle i } in
     let labels = mask_below old name (table_labels old is) in
@@ -186,6 +186,7 @@ one_more_mask old new name is secrets masks fresh declared per_cycle =
       shared = is.shared;
       mask_wide = each_more (λ (m : MaskPlan). 0 < m.width) old.masks (next_mask old name) is.mask_wide (omega arith);
       fresh_wide = is.fresh_wide;
+      few = few;
       once = labels.once;
       each = labels.each;
       fresh_once = is.fresh_once;
@@ -195,8 +196,8 @@ one_more_mask old new name is secrets masks fresh declared per_cycle =
 -- a table with one more secret of one bit, whose shares have the next labels
 pub one_more_secret : (old new : LabelTable) (name : List ℕ) (shares : ℕ) → 0 < shares → IsLabelTable old
     → new.secrets ≡ old.secrets ++ next_secret old name shares ∷ [] → new.masks ≡ old.masks → new.fresh ≡ old.fresh
-    → new.declared ≡ old.declared + shares → new.per_cycle ≡ old.per_cycle → IsLabelTable new
-one_more_secret old new name shares some is secrets masks fresh declared per_cycle =
+    → new.declared ≡ old.declared + shares → new.per_cycle ≡ old.per_cycle → old.declared + shares ≤ 4096 → IsLabelTable new
+one_more_secret old new name shares some is secrets masks fresh declared per_cycle few =
     let same : new ≡ with_secret old name shares =
     λ i. record { secrets = secrets i; masks = masks i; fresh = fresh i; declared = declared i; per_cycle = per_cycle i } in
     let labels = secret_below old name shares (table_labels old is) in
@@ -205,6 +206,7 @@ one_more_secret old new name shares some is secrets masks fresh declared per_cyc
       shared = each_more (λ (s : SecretPlan). 0 < s.shares) old.secrets (next_secret old name shares) is.shared some;
       mask_wide = is.mask_wide;
       fresh_wide = is.fresh_wide;
+      few = few;
       once = labels.once;
       each = labels.each;
       fresh_once = is.fresh_once;

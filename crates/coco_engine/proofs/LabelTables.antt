@@ -1,5 +1,5 @@
 -- The labels that a file declares are numbered once each.
-use Rattle.std.proofs.Common.{◌≡◌, ℕ, ◌<◌, ◌↔◌, ◌&&◌, ◌⊎◌, inl, inr, Bool, true, false, List, [], ◌∷◌, Contains, Option, Some, None, option_and_then, nat_le, refl, subst, arith, if◌then◌else◌}
+use Rattle.std.proofs.Common.{◌≡◌, ℕ, ◌+◌, ◌<◌, ◌≤◌, ◌↔◌, ◌&&◌, ◌⊎◌, inl, inr, Bool, true, false, not, List, [], ◌∷◌, Contains, Option, Some, None, option_and_then, nat_le, refl, subst, arith, lit≤, if◌then◌else◌}
 use Rattle.std.specs.Str.{bytes_eq}
 use Rattle.std.specs.Prelude.{codes}
 use Rattle.std.proofs.lemmas.Bool.{and_parts}
@@ -7,7 +7,7 @@ use Rattle.coco_base.specs.declared.netlist.Flat.{Flat}
 use Rattle.coco_model.specs.Labels.{IsLabelTable}
 use Rattle.coco_model.proofs.Basics.{Contains-none}
 use Rattle.coco_engine.proofs.LabelCountLemmas.{one_more_mask, one_more_secret}
-use Rattle.coco_engine.specs.LabelFile.{add_mask, add_secret, digits_of, is_new, labels_from, lines_of, most_shares, name_clock, net_bit, nothing_said, said_by, say, say_all, say_three, table_of, tie, value_of, pieces, when_clocked, words_of}
+use Rattle.coco_engine.specs.LabelFile.{add_mask, add_secret, digits_of, is_declared, is_label_name, is_new, labels_from, lines_of, most_labels, most_shares, name_clock, net_bit, nothing_said, said_by, say, say_all, say_three, table_of, tie, value_of, pieces, when_clocked, words_of}
 use Rattle.coco_engine.specs.declared.labels.Said.{Said}
 
 none_some : {X : Type 0} (y : X) → None ≡ Some y → ⊥
@@ -38,10 +38,17 @@ either false o p y h = inr h
 abbrev Numbers : Said → Type 0
 Numbers said = IsLabelTable (table_of said)
 
+-- a name that is declared leaves at most 64 labels
+few_labels : (said : Said) (name : List ℕ) (count : ℕ) → is_new said name count ≡ true → said.declared + count ≤ 4096
+few_labels said name count new =
+    let room = (and_parts (is_label_name name && not (is_declared said name)) (nat_le (said.declared + count) most_labels) new).1 in
+    let most : said.declared + count ≤ 64 = grind (arith, room) in
+    omega (arith, most)
+
 mask_keeps : (said next : Said) (name : List ℕ) → Numbers said → add_mask said name ≡ Some next → Numbers next
 mask_keeps said next name is h =
-    let t = some_same _ next (taken (is_new said name 1) _ next h).1 in
-    subst Numbers t (one_more_mask (table_of said) _ name is refl refl refl refl refl)
+    let t = taken (is_new said name 1) _ next h in
+    subst Numbers (some_same _ next t.1) (one_more_mask (table_of said) _ name is refl refl refl refl refl (few_labels said name 1 t.0))
 
 secret_keeps : (said next : Said) (name : List ℕ) (shares : ℕ) → Numbers said → add_secret said name shares ≡ Some next → Numbers next
 secret_keeps said next name shares is h =
@@ -49,7 +56,8 @@ secret_keeps said next name shares is h =
     let all = and_parts (nat_le 1 shares && nat_le shares most_shares) (is_new said name shares) t.0 in
     let least = (and_parts (nat_le 1 shares) (nat_le shares most_shares) all.0).0 in
     let some : 0 < shares = grind (arith, least) in
-    subst Numbers (some_same _ next t.1) (one_more_secret (table_of said) _ name shares some is refl refl refl refl refl)
+    subst Numbers (some_same _ next t.1)
+    (one_more_secret (table_of said) _ name shares some is refl refl refl refl refl (few_labels said name shares all.1))
 
 tie_keeps : (flat : Flat) (said next : Said) (bit label : ℕ) → Numbers said → tie flat said bit label ≡ Some next → Numbers next
 tie_keeps flat said next bit label is h = subst Numbers (some_same _ next (taken _ _ next h).1) is
@@ -95,6 +103,7 @@ nothing_numbers = record {
   shared = λ s h. absurd (Contains-none s h);
   mask_wide = λ m h. absurd (Contains-none m h);
   fresh_wide = λ m h. absurd (Contains-none m h);
+  few = lit≤ tt;
   once = tt;
   each = none_below;
   fresh_once = tt;

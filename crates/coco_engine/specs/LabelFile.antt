@@ -92,8 +92,8 @@ port_bit [] = None
 port_bit (p ∷ []) = only_bit p.wires
 port_bit (p ∷ q ∷ ps) = None
 
-abbrev pub is_leaf : Flat → ℕ → Bool
-is_leaf flat bit = list_any (λ (f : FlatFlop). f.output == bit) flat.flops
+abbrev pub is_flop_output : Flat → ℕ → Bool
+is_flop_output flat bit = list_any (λ (f : FlatFlop). f.output == bit) flat.flops
 
 -- ---- values
 
@@ -130,7 +130,7 @@ abbrev pub is_free : List (ℕ × ℕ) → ℕ → Bool
 is_free tied bit = not (list_any (λ (p : ℕ × ℕ). p.0 == bit) tied)
 
 abbrev pub tie : Flat → Said → ℕ → ℕ → Option Said
-tie flat said bit label = if is_leaf flat bit && is_free said.tied bit then Some (record said { tied = said.tied ++ (bit, label) ∷ [] }) else None
+tie flat said bit label = if is_flop_output flat bit && is_free said.tied bit then Some (record said { tied = said.tied ++ (bit, label) ∷ [] }) else None
 
 abbrev pub same_bit : Option ℕ → Option ℕ → Bool
 same_bit None other = false

@@ -5,7 +5,7 @@ ghost use Rattle.std.specs.Str.{bytes_eq};
 ghost use Rattle.coco_base.specs.declared.labels.MaskPlan.{MaskPlan};
 ghost use Rattle.coco_base.specs.declared.labels.SecretPlan.{SecretPlan};
 ghost use Rattle.coco_base.specs.declared.netlist.FlatFlop.{FlatFlop};
-ghost use Rattle.coco_engine.specs.LabelFile.{AreLabels, AreSaid, add_mask, add_secret, capped, digits_of, is_declared, is_digits, is_free, is_label_name, is_leaf, is_new, labels_from, mask_label, name_clock, net_bit, nothing_said, only_bit, pieces, port_bit, said_by, same_bit, say, say_four, say_three, say_two, share_label, share_of, shown_pieces, start_at, starts_of, tie, value_of, words_of};
+ghost use Rattle.coco_engine.specs.LabelFile.{AreLabels, AreSaid, add_mask, add_secret, capped, digits_of, is_declared, is_digits, is_flop_output, is_free, is_label_name, is_new, labels_from, mask_label, name_clock, net_bit, nothing_said, only_bit, pieces, port_bit, said_by, same_bit, say, say_four, say_three, say_two, share_label, share_of, shown_pieces, start_at, starts_of, tie, value_of, words_of};
 ghost use Rattle.coco_engine.specs.LabelRoom.{HasRoom, HaveRoom};
 ghost use Rattle.coco_engine.specs.Words.{number_of};
 
@@ -343,7 +343,7 @@ fn register(
 fn tie(flat: &Flat, said: Said, bit: u32, label: u32) -> Result<Option<Said>, NoMemory>
     ensures { IfOk result (λ o. o ≡ tie flat.now said bit label) }
 {
-    if !is_leaf(flat.flops.as_slice(), bit) || !is_free(said.tied.as_slice(), bit) {
+    if !is_flop_output(flat.flops.as_slice(), bit) || !is_free(said.tied.as_slice(), bit) {
         return Ok(None);
     }
     let mut said = said;
@@ -351,7 +351,7 @@ fn tie(flat: &Flat, said: Said, bit: u32, label: u32) -> Result<Option<Said>, No
     Ok(Some(said))
 }
 
-fn is_leaf(flops: &[FlatFlop], bit: u32) -> bool
+fn is_flop_output(flops: &[FlatFlop], bit: u32) -> bool
     ensures { result ≡ list_any (λ (f : FlatFlop). f.output == bit) flops.now }
 {
     flops.iter().any(|flop| flop.output == bit)

@@ -9,3 +9,6 @@ pub mod LivePlaces
 mod Circuits
 mod Pulses
 mod Unshared
+mod UnsharedValue
+mod Masked
+mod MaskedRun

@@ -119,7 +119,7 @@ reached name (suc zero) below leaf = (to, from)
         subst (Contains {X = ℕ} (1 ∷ [])) (sym (same_leaf (one_register name) row leaf 1 (no_cells name 1) walk)) (Contains-here 1 [])
 reached name (suc (suc b)) below leaf = absurd (omega arith)
 
-zero_apart : (l : ℕ) → nat_eq 0 (suc l) ≡ false
+pub zero_apart : (l : ℕ) → nat_eq 0 (suc l) ≡ false
 zero_apart l = grind (arith, nat_tests)
 
 pub unshared_finding : (name : Text) → HasFinding (one_register name) (unshared_setup name) 1 1

@@ -1,10 +1,11 @@
 -- Small circuits, with which the definitions can be computed by hand.
-use Rattle.std.specs.Prelude.{ℕ, zero, suc, false, true, List, [], ◌∷◌, map, length, ℤ, Some, None, Contains, ◌↔◌}
+use Rattle.std.specs.Prelude.{ℕ, zero, suc, Bool, false, true, List, [], ◌∷◌, ◌++◌, map, length, get_or, ℤ, Some, None, Contains, ◌↔◌}
 use Rattle.std.specs.List.{range_with_len}
 use Rattle.coco_base.specs.declared.text.Text.{Text}
 use Rattle.coco_base.specs.declared.cell.Kind.{Kind}
 use Rattle.coco_base.specs.declared.cell.Kind.TheVariants.{And, Xor, Mux}
 use Rattle.coco_base.specs.declared.cell.Part.{Part}
+use Rattle.coco_base.specs.declared.cell.Part.TheVariants.{Zero, Vary}
 use Rattle.coco_base.specs.declared.netlist.Flat.{Flat}
 use Rattle.coco_base.specs.declared.netlist.FlatCell.{FlatCell}
 use Rattle.coco_base.specs.declared.netlist.FlatFlop.{FlatFlop}
@@ -15,10 +16,19 @@ use Rattle.coco_base.specs.declared.labels.LabelTable.{LabelTable}
 use Rattle.coco_base.specs.declared.setup.Start.{Start}
 use Rattle.coco_base.specs.declared.setup.Start.TheVariants.{Public, Label}
 use Rattle.coco_base.specs.declared.setup.InputPlan.{InputPlan}
+use Rattle.coco_base.specs.declared.setup.MemPlan.{MemPlan}
+use Rattle.coco_base.specs.declared.setup.When.{When}
+use Rattle.coco_base.specs.declared.setup.ControlPlan.{ControlPlan}
 use Rattle.coco_base.specs.declared.setup.Setup.{Setup}
+use Rattle.coco_base.specs.declared.finding.Finding.{Finding}
+use Rattle.coco_base.specs.declared.unrolled.Node.{Node}
+use Rattle.coco_base.specs.declared.unrolled.Node.TheVariants.{Nothing, Label as LabelNode, Copy, Gate}
 use Rattle.coco_model.specs.Cells.{signed_sum, subset_of_number}
 use Rattle.coco_model.specs.Netlist.{Valuation}
+use Rattle.coco_model.specs.Known.{Row}
 use Rattle.coco_model.specs.Reach.{Reach}
+use Rattle.coco_model.specs.Roots.{Root}
+use Rattle.coco_model.specs.Roots.Root.{nothing, label, output}
 
 -- the signed sums of a gate at the subsets with the first numbers, so many
 abbrev pub signed_sums : Kind → List Part → ℕ → List ℤ
@@ -29,7 +39,7 @@ abbrev pub input_port : Text → ℕ → FlatPort
 input_port name bit = record { name = name; input = true; wires = Bit bit ∷ [] }
 
 abbrev pub gate : Text → Kind → List Wire → ℕ → FlatCell
-gate name kind inputs output = record { name = name; kind = kind; inputs = inputs; output = output }
+gate name kind inputs bit = record { name = name; kind = kind; inputs = inputs; output = bit }
 
 -- a flop that keeps its value, clocked by bit 0
 abbrev pub keeper : Text → ℕ → FlatFlop
@@ -114,6 +124,19 @@ pulsing_setup name = setup_of name 2 (Public false ∷ Public false ∷ Public f
 abbrev pub unshared_setup : Text → Setup
 unshared_setup name = setup_of name 1 (Public false ∷ Label 0 ∷ []) []
 
+-- the finding there as a value, with a set of labels: the probe of the flop in cycle 0, which shows the flop
+abbrev pub unshared_value : List ℕ → Finding
+unshared_value labels = record {
+  probes = record { bit = 1; cycle = 0 } ∷ [];
+  seen = record { bit = 1; cycle = 0 } ∷ [];
+  selection = record { choices = 0 ∷ 0 ∷ [] };
+  set = labels;
+}
+
+-- what the flop and the clock reach
+abbrev pub unshared_reach : Reach
+unshared_reach t b = get_or ([] ∷ (1 ∷ []) ∷ []) b []
+
 -- y = MUX(q0, q1, s) reaches q0 while s stays 0, all three while s changes, and q1 while s stays 1
 pub record IsSelectedReach (reach : Reach) : Type 0 where
   pub zero : (leaf : ℕ) → Contains (reach 0 4) leaf ↔ Contains (2 ∷ []) leaf
@@ -130,3 +153,89 @@ abbrev pub inputs_high : Valuation
 inputs_high zero = true
 inputs_high (suc zero) = true
 inputs_high (suc (suc b)) = false
+
+-- what is known of the bits of a list, and 0 of all others
+abbrev pub known_bits : List Part → Row
+known_bits parts b = get_or parts b Zero
+
+-- a memory port whose request is bit 1, with a write at bit 2, one byte enable at bit 3 and these address wires
+abbrev pub memory_port : List Wire → MemPlan
+memory_port address = record {
+  request = Bit 1;
+  write = Some (Bit 2);
+  enables = Bit 3 ∷ [];
+  address = address;
+  value = [];
+  answer = [];
+}
+
+-- a setup with that port, whose address is bit 4
+abbrev pub setup_with_port : Text → Setup
+setup_with_port name = record (setup_of name 1 [] []) { memories = memory_port (Bit 4 ∷ []) ∷ [] }
+
+abbrev pub control : Text → ℕ → When → ControlPlan
+control name bit when = record { name = name; wire = Bit bit; when = when }
+
+-- so many wires of one constant
+abbrev pub constants : ℕ → Bool → List Wire
+constants zero b = []
+constants (suc n) b = Const b ∷ constants n b
+
+-- a flop whose reset is bit 2, active at this level
+abbrev pub resettable : Text → Bool → FlatFlop
+resettable name level = record (keeper name 1) { reset = Some (Bit 2); level = level }
+
+-- w = XOR(q0, n), r = FLOP(w) and y = XOR(r, q1), where the flops q0, q1 and n keep their values: the bits are, in this
+-- order, the clock, q0, q1, n, w, r and y
+abbrev pub masked_register : Text → Flat
+masked_register name = record {
+  bits = 7;
+  ports = input_port name 0 ∷ [];
+  cells =
+      gate name Xor (Bit 1 ∷ Bit 3 ∷ Const false ∷ Const false ∷ []) 4
+      ∷ gate name Xor (Bit 5 ∷ Bit 2 ∷ Const false ∷ Const false ∷ []) 6
+      ∷ [];
+  flops = keeper name 1 ∷ keeper name 2 ∷ keeper name 3 ∷ record (keeper name 5) { next = Bit 4 } ∷ [];
+  nets = [];
+}
+
+-- q0 and q1 hold the two shares of a secret, n a mask, and r is 0
+abbrev pub masked_setup : Text → Setup
+masked_setup name = record
+    (setup_of name 2 (Public false ∷ Label 0 ∷ Label 1 ∷ Label 2 ∷ Public false ∷ Public false ∷ Public false ∷ []) [])
+    { table = record (one_secret name 2) { masks = record { name = name; width = 1; first = 2 } ∷ []; declared = 3 } }
+
+-- what is known of it in two cycles
+abbrev pub masked_row : ℕ → Row
+masked_row zero = known_bits (Zero ∷ Vary ∷ Vary ∷ Vary ∷ Vary ∷ Zero ∷ Vary ∷ [])
+masked_row (suc t) = known_bits (Zero ∷ Vary ∷ Vary ∷ Vary ∷ Vary ∷ Vary ∷ Vary ∷ [])
+
+-- its roots in two cycles
+abbrev pub masked_root : ℕ → ℕ → Root
+masked_root zero b = get_or (nothing ∷ label 0 ∷ label 1 ∷ label 2 ∷ output 0 4 ∷ nothing ∷ output 0 6 ∷ []) b nothing
+masked_root (suc t) b = get_or (nothing ∷ label 0 ∷ label 1 ∷ label 2 ∷ output 0 4 ∷ output 0 4 ∷ output 1 6 ∷ []) b nothing
+
+-- its nodes in each of two cycles
+abbrev pub masked_cycle : ℕ → List Node
+masked_cycle zero =
+    Nothing ∷ LabelNode 0 ∷ LabelNode 1 ∷ LabelNode 2 ∷ Gate Xor (Vary ∷ Vary ∷ Zero ∷ Zero ∷ []) (1 ∷ 3 ∷ 0 ∷ 0 ∷ []) ∷ Nothing
+    ∷ Gate Xor (Zero ∷ Vary ∷ Zero ∷ Zero ∷ []) (0 ∷ 2 ∷ 0 ∷ 0 ∷ [])
+    ∷ []
+masked_cycle (suc t) =
+    Nothing ∷ Copy 1 ∷ Copy 2 ∷ Copy 3 ∷ Copy 4 ∷ Copy 4 ∷ Gate Xor (Vary ∷ Vary ∷ Zero ∷ Zero ∷ []) (12 ∷ 9 ∷ 0 ∷ 0 ∷ []) ∷ []
+
+abbrev pub masked_node : ℕ → ℕ → Node
+masked_node t b = get_or (masked_cycle t) b Nothing
+
+-- all of them, in order
+abbrev pub masked_nodes : List Node
+masked_nodes = masked_cycle 0 ++ masked_cycle 1
+
+-- their cones
+abbrev pub masked_cones : ℕ → List ℕ
+masked_cones i =
+    get_or
+    ([] ∷ (0 ∷ []) ∷ (1 ∷ []) ∷ (2 ∷ []) ∷ (0 ∷ 2 ∷ []) ∷ [] ∷ (1 ∷ [])
+    ∷ [] ∷ (0 ∷ []) ∷ (1 ∷ []) ∷ (2 ∷ []) ∷ (0 ∷ 2 ∷ []) ∷ (0 ∷ 2 ∷ []) ∷ (0 ∷ 1 ∷ 2 ∷ [])
+    ∷ [])
+    i []

@@ -1,5 +1,5 @@
 -- Labels, choices of their bits, and secrets.
-use Rattle.std.specs.Prelude.{ℕ, zero, suc, ◌+◌, ◌*◌, ◌<◌, Bool, true, false, ◌&&◌, not, List, [], ◌∷◌, ◌++◌, map, flat_map, filter, length, get_or, Contains, ◌↔◌}
+use Rattle.std.specs.Prelude.{ℕ, zero, suc, ◌+◌, ◌*◌, ◌<◌, ◌≤◌, Bool, true, false, ◌&&◌, not, List, [], ◌∷◌, ◌++◌, map, flat_map, filter, length, get_or, Contains, ◌↔◌}
 use Rattle.std.specs.List.{range_with_len}
 use Rattle.coco_base.specs.declared.labels.SecretPlan.{SecretPlan}
 use Rattle.coco_base.specs.declared.labels.MaskPlan.{MaskPlan}
@@ -70,13 +70,14 @@ declared_labels table = flat_map (λ (ls : List ℕ). ls) (secret_labels table.s
 abbrev pub fresh_labels : LabelTable → List ℕ
 fresh_labels table = flat_map mask_labels table.fresh
 
--- a table that numbers labels: each label below the declared number is of one share or mask bit, and each label of a
--- cycle is of one bit of a fresh mask
+-- a table that numbers labels: each label below the declared number, which is at most 4,096, is of one share or mask
+-- bit, and each label of a cycle is of one bit of a fresh mask
 pub record IsLabelTable (table : LabelTable) : Type 0 where
   pub wide : (s : SecretPlan) → Contains table.secrets s → 0 < s.width
   pub shared : (s : SecretPlan) → Contains table.secrets s → 0 < s.shares
   pub mask_wide : (m : MaskPlan) → Contains table.masks m → 0 < m.width
   pub fresh_wide : (m : MaskPlan) → Contains table.fresh m → 0 < m.width
+  pub few : table.declared ≤ 4096
   pub once : HasNoRepeat (declared_labels table)
   pub each : (l : ℕ) → Contains (declared_labels table) l ↔ (l < table.declared)
   pub fresh_once : HasNoRepeat (fresh_labels table)

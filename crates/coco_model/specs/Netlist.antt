@@ -87,7 +87,7 @@ abbrev pub IsWireBelow : ℕ → Wire → Type 0
 IsWireBelow bits (Const b) = Unit {0}
 IsWireBelow bits (Bit n) = n < bits
 
--- each bit that the netlist names is one of its bits
+-- each bit that a cell reads or drives, or that a flop, a port or a net names, is one of the netlist's bits
 pub record IsInRange (flat : Flat) : Type 0 where
   pub outputs : (c : FlatCell) → Contains flat.cells c → c.output < flat.bits
   pub inputs : (c : FlatCell) → Contains flat.cells c → (w : Wire) → Contains (wires_of c) w → IsWireBelow flat.bits w

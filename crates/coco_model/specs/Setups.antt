@@ -54,11 +54,12 @@ pub record IsClock (flat : Flat) (b : ℕ) : Type 0 where
   pub no_next : (f : FlatFlop) → Contains flat.flops f → f.next ≡ Bit b → ⊥
   pub no_reset : (f : FlatFlop) → Contains flat.flops f → f.reset ≡ Some (Bit b) → ⊥
 
--- a setup is bound to a netlist: its numbers are in range, its parts have their widths, inputs, echoes and memory
--- answers start as their plans say, at most one memory port writes, the words are apart, the controls are there, and
--- each input port bit is bound once
+-- a setup is bound to a netlist: its numbers are in range, a cycle has at most as many fresh labels as the netlist has
+-- bits, its parts have their widths, inputs start as their plans say, echoes and memory answers start at 0, at most one
+-- memory port writes, the words are apart, the controls are there, and each input port bit is bound once
 pub record IsBoundTo (flat : Flat) (setup : Setup) : Type 0 where
   pub table : IsLabelTable setup.table
+  pub fresh_labels : setup.table.per_cycle ≤ flat.bits
   pub starts : length setup.starts ≡ flat.bits
   pub labels : (s : Start) → Contains setup.starts s → IsLabelled setup.table s
   pub input_labels : (p : InputPlan) → Contains setup.inputs p → (s : Start) → Contains p.values s

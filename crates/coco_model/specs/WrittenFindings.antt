@@ -5,8 +5,10 @@ use Rattle.coco_base.specs.declared.cell.Kind.{Kind}
 use Rattle.coco_base.specs.declared.cell.Part.{Part}
 use Rattle.coco_base.specs.declared.setup.Setup.{Setup}
 use Rattle.coco_base.specs.declared.finding.Probe.{Probe}
+use Rattle.coco_base.specs.declared.finding.Finding.{Finding}
 use Rattle.coco_base.specs.declared.unrolled.Node.{Node}
 use Rattle.coco_base.specs.declared.unrolled.Node.TheVariants.{Nothing, Gate}
+use Rattle.coco_base.specs.LabelSets.{has}
 use Rattle.coco_model.specs.Labels.{parity}
 use Rattle.coco_model.specs.Known.{Row}
 use Rattle.coco_model.specs.Reach.{Reach}
@@ -27,9 +29,9 @@ AreAscending (p ∷ ps) = ((q : Probe) → Contains ps q → ComesBefore p q) ×
 abbrev pub set_of_nodes : (ℕ → ℕ → ℕ) → (ℕ → Labels) → List Probe → Labels
 set_of_nodes index sets pairs l = parity (map (λ (u : Probe). sets (index u.cycle u.bit) l) pairs)
 
--- a try of order d: at least one and at most d probes and the unknown pairs that they show, both in ascending order, and numbers that
--- choose a set for each node
-pub record IsTry (flat : Flat) (setup : Setup) (cycles d : ℕ) (row : ℕ → Row) (reach : Reach) (nodes : List Node)
+-- a candidate of order d: at least one and at most d probes and unknown pairs that they show, both in ascending order, and
+-- numbers that choose a set for each node
+pub record IsCandidate (flat : Flat) (setup : Setup) (cycles d : ℕ) (row : ℕ → Row) (reach : Reach) (nodes : List Node)
     (probes pairs : List Probe) (numbers : List ℕ) (sets : ℕ → Labels) : Type 0 where
   pub some : 0 < length probes
   pub most : length probes ≤ d
@@ -45,23 +47,38 @@ pub record IsLeakingSet (setup : Setup) (labels : Labels) : Type 0 where
   pub not_empty : labels member ≡ true
   pub whole : IsWhole setup.table labels
 
--- a written finding: a try whose set shows a leak, where index gives the numbers of nodes
-pub record IsWrittenFinding (flat : Flat) (setup : Setup) (cycles d : ℕ) (index : ℕ → ℕ → ℕ) (row : ℕ → Row) (reach : Reach)
-    (nodes : List Node) (probes pairs : List Probe) (numbers : List ℕ) (sets : ℕ → Labels) : Type 0 where
-  pub is_try : IsTry flat setup cycles d row reach nodes probes pairs numbers sets
-  pub leaks : IsLeakingSet setup (set_of_nodes index sets pairs)
-
 -- the numbers are 0 at each node that is no gate
 pub record AreZeroElsewhere (nodes : List Node) (numbers : List ℕ) : Type 0 where
   pub zero : (i : ℕ) → i < length nodes
       → ((kind : Kind) (parts : List Part) (operands : List ℕ) → get_or nodes i Nothing ≢ Gate kind parts operands) → get_or numbers i 0 ≡ 0
 
--- a written finding exists, with 0 at each node that is no gate
+-- a try of order d: a candidate with 0 at each node that is no gate
+pub record IsTry (flat : Flat) (setup : Setup) (cycles d : ℕ) (row : ℕ → Row) (reach : Reach) (nodes : List Node)
+    (probes pairs : List Probe) (numbers : List ℕ) (sets : ℕ → Labels) : Type 0 where
+  pub candidate : IsCandidate flat setup cycles d row reach nodes probes pairs numbers sets
+  pub elsewhere : AreZeroElsewhere nodes numbers
+
+-- a written finding: a candidate whose set shows a leak, where index gives the numbers of nodes
+pub record IsWrittenFinding (flat : Flat) (setup : Setup) (cycles d : ℕ) (index : ℕ → ℕ → ℕ) (row : ℕ → Row) (reach : Reach)
+    (nodes : List Node) (probes pairs : List Probe) (numbers : List ℕ) (sets : ℕ → Labels) : Type 0 where
+  pub candidate : IsCandidate flat setup cycles d row reach nodes probes pairs numbers sets
+  pub leaks : IsLeakingSet setup (set_of_nodes index sets pairs)
+
+-- a value is a finding: with its probes, pairs and choices it is a written finding, and its set is the one that its pairs
+-- have by these choices
+pub record IsFindingValue (flat : Flat) (setup : Setup) (cycles d : ℕ) (index : ℕ → ℕ → ℕ) (row : ℕ → Row) (reach : Reach)
+    (nodes : List Node) (finding : Finding) : Type 0 where
+  pub sets : ℕ → Labels
+  pub written :
+      IsWrittenFinding flat setup cycles d index row reach nodes finding.probes finding.seen finding.selection.choices sets
+  pub set : (l : ℕ) → has finding.set l ≡ set_of_nodes index sets finding.seen l
+
+-- a try exists whose set shows a leak: a written finding with 0 at each node that is no gate
 pub record HasWrittenFinding (flat : Flat) (setup : Setup) (cycles d : ℕ) (index : ℕ → ℕ → ℕ) (row : ℕ → Row) (reach : Reach)
     (nodes : List Node) : Type 0 where
   pub probes : List Probe
   pub pairs : List Probe
   pub numbers : List ℕ
   pub sets : ℕ → Labels
-  pub finding : IsWrittenFinding flat setup cycles d index row reach nodes probes pairs numbers sets
-  pub elsewhere : AreZeroElsewhere nodes numbers
+  pub is_try : IsTry flat setup cycles d row reach nodes probes pairs numbers sets
+  pub leaks : IsLeakingSet setup (set_of_nodes index sets pairs)

@@ -152,7 +152,7 @@ abbrev pub ReachesGood : Flat → Row → (ℕ → Type 0) → ℕ → Type 0
 ReachesGood flat calm good b = (leaf : ℕ) → Reaches flat calm leaf b → good leaf
 
 -- a wire that varies is a bit
-vary_bit : (row : Row) (w : Wire) → wire_part row w ≡ Vary → (n : ℕ) × (w ≡ Bit n)
+pub vary_bit : (row : Row) (w : Wire) → wire_part row w ≡ Vary → (n : ℕ) × (w ≡ Bit n)
 vary_bit row (Const false) e = absurd cc
 vary_bit row (Const true) e = absurd cc
 vary_bit row (Bit n) e = (n, refl)

@@ -18,6 +18,8 @@ pub mod Solved
 pub mod Sources
 pub mod Exists
 pub mod Meanings
+pub mod Settling
 pub mod Noded
 pub mod Selected
+pub mod Coned
 pub mod Securely

@@ -26,7 +26,7 @@ use Rattle.model_laws.proofs.Solved.{ReadsWires, HasStates, states_exist}
 use Rattle.model_laws.proofs.Exists.{old_of, HasCarried, carried_exists}
 use Rattle.model_laws.specs.Laws.{MeaningLaw}
 
-value_reads : ReadsWires (λ c v. cell_value v c)
+pub value_reads : ReadsWires (λ c v. cell_value v c)
 value_reads = record { reads = λ c v w same. ap (output_of c.kind) (on_wires-cong (λ b. b) v w (wires_of c) same) }
 
 run_exists : (flat : Flat) (setup : Setup) (rank : ℕ → ℕ) → IsRanked flat rank → IsBound flat setup → HasOneDriver flat → (choice : Choice)

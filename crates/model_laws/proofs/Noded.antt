@@ -170,19 +170,20 @@ gate_is_node flat index row root t c listed own (Gate kind parts operands) h = (
 
 pub unrolled_law : UnrolledLaw
 unfolding UnrolledLaw
-unrolled_law flat setup cycles rank row word checked range root rooted is_rooted index apart nodes node_word unrolled = record {
-  each = λ t b below inside. by_driver flat (λ b. IsNodeOf flat index row root t b (nodes (index t b)))
-      (λ b none. leaf_is_node flat index row root t b (nodes (index t b))
-      ((leaf_nodes flat setup cycles rank row word checked range root rooted is_rooted index (λ t b. nodes (index t b)) node_word unrolled t below).leaves b none))
-      (λ c listed. cell t below c listed) b;
+unrolled_law flat setup cycles rank row word checked range root rooted is_rooted index apart node node_word unrolled nodes same = record {
+  each = λ t b below inside. subst (IsNodeOf flat index row root t b) (sym (same t b below inside))
+      (by_driver flat (λ b. IsNodeOf flat index row root t b (node t b))
+      (λ b none. leaf_is_node flat index row root t b (node t b)
+      ((leaf_nodes flat setup cycles rank row word checked range root rooted is_rooted index node node_word unrolled t below).leaves b none))
+      (λ c listed. cell t below c listed) b);
   apart = apart;
 }
   where
     cell : (t : ℕ) → t < cycles → (c : FlatCell) → Contains flat.cells c
-        → IsNodeOf flat index row root t c.output (nodes (index t c.output))
+        → IsNodeOf flat index row root t c.output (node t c.output)
     cell t below c listed = go (vary_or_not (row t c.output)) (kept_or_not row root t c)
       where
-        has : HasCellNode index row root t c (nodes (index t c.output))
+        has : HasCellNode index row root t c (node t c.output)
         has = unrolled.cells t below c listed
 
         root_is : HasCellRoot row root t c
@@ -192,9 +193,9 @@ unrolled_law flat setup cycles rank row word checked range root rooted is_rooted
         known = (nothing_where_known flat setup cycles rank row word checked root rooted is_rooted t below).bits c.output
 
         go : (row t c.output ≡ Vary) ⊎ (row t c.output ≢ Vary) → IsKept row root t c ⊎ (IsKept row root t c → ⊥)
-            → IsNodeOf flat index row root t c.output (nodes (index t c.output))
+            → IsNodeOf flat index row root t c.output (node t c.output)
         go (inr n) kept = subst (IsNodeOf flat index row root t c.output) (sym (has.known n)) (root_is.known n)
         go (inl varies) (inl kept) = subst (IsNodeOf flat index row root t c.output) (sym (has.kept varies kept))
             (before t, c.output, before_earlier row root t c kept, range.outputs c listed, refl, (λ e. known.known_if e varies), root_is.kept varies kept)
         go (inl varies) (inr own) =
-            gate_is_node flat index row root t c listed (root_is.own varies own) (nodes (index t c.output)) (has.own varies own)
+            gate_is_node flat index row root t c listed (root_is.own varies own) (node t c.output) (has.own varies own)

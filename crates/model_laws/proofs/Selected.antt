@@ -33,7 +33,7 @@ pub record HasOrigin (flat : Flat) (index : ℕ → ℕ → ℕ) (root : ℕ →
   pub number : origin ≡ index cycle bit
   pub same : r ≡ root cycle bit
 
-node_at : (flat : Flat) (cycles : ℕ) (index : ℕ → ℕ → ℕ) (row : ℕ → Row) (root : ℕ → ℕ → Root) (nodes : ℕ → Node)
+pub node_at : (flat : Flat) (cycles : ℕ) (index : ℕ → ℕ → ℕ) (row : ℕ → Row) (root : ℕ → ℕ → Root) (nodes : ℕ → Node)
     → AreNodesOf flat cycles index row root nodes
     → (t b : ℕ) → t < cycles → b < flat.bits → (node : Node) → nodes (index t b) ≡ node → IsNodeOf flat index row root t b node
 node_at flat cycles index row root nodes are t b below inside node e =
@@ -186,7 +186,7 @@ same_sets flat cycles index row root nodes are sets node_sets (suc n) t b l lt b
     go (Gate kind parts operands) (c, listed, drives, own, gate) set lower = ap (λ r. set_by index sets r l) (sym own)
 
 -- two cells with one output are one
-one_cell : (flat : Flat) → HasOneDriver flat → (c d : FlatCell) → Contains flat.cells c → Contains flat.cells d → c.output ≡ d.output
+pub one_cell : (flat : Flat) → HasOneDriver flat → (c d : FlatCell) → Contains flat.cells c → Contains flat.cells d → c.output ≡ d.output
     → c ≡ d
 one_cell flat driven c d in_c in_d same =
     let e : Some c ≡ Some d =

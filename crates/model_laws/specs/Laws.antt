@@ -1,12 +1,12 @@
 -- The laws of runs, as facts that contracts name.
-use Rattle.std.specs.Prelude.{◌≡◌, ◌≢◌, ℕ, ◌<◌, ◌≤◌, Bool, true, List, [], ◌++◌, map, Contains, ◌⊎◌}
+use Rattle.std.specs.Prelude.{◌≡◌, ◌≢◌, ℕ, ◌<◌, ◌≤◌, Bool, true, List, [], ◌++◌, map, Contains, ◌⊎◌, ◌↔◌}
 use Rattle.coco_base.specs.declared.netlist.Flat.{Flat}
 use Rattle.coco_base.specs.declared.cell.Part.TheVariants.{Vary}
 use Rattle.coco_base.specs.declared.setup.MemPlan.{MemPlan}
 use Rattle.coco_base.specs.declared.setup.Setup.{Setup}
 use Rattle.coco_base.specs.declared.unrolled.Node.{Node}
 use Rattle.coco_model.specs.Cells.{Allows}
-use Rattle.coco_model.specs.Netlist.{Valuation, IsSettled, IsRanked, HasOneDriver, IsInRange, IsCellBit}
+use Rattle.coco_model.specs.Netlist.{Valuation, IsSettled, IsRanked, HasOneDriver, IsInRange, IsInputBit, IsFlopBit, IsCellBit}
 use Rattle.coco_model.specs.Labels.{Choice, label_count}
 use Rattle.coco_model.specs.Carried.{is_read, word_address, stores, IsBound, AreStarts, IsLabelled}
 use Rattle.coco_model.specs.Run.{Memory, IsRun, before}
@@ -22,12 +22,24 @@ use Rattle.coco_model.specs.Roots.{Root, IsRooted, root_value}
 use Rattle.coco_model.specs.Roots.Root.{nothing, label, output}
 use Rattle.coco_model.specs.Findings.{Labels, IsSelection}
 use Rattle.coco_model.specs.Nodes.{LeadsTo, IsNodeSet, AreNodesOf, IsUnrolled}
+use Rattle.coco_model.specs.Cones.{IsInRootCone, IsInCone}
 
 -- two settled valuations that agree on the bits that no cell drives are one
 unfoldable pub OneSettledLaw : Type 0
 OneSettledLaw =
     (flat : Flat) (rank : ℕ → ℕ) (v w : Valuation) → IsRanked flat rank → IsSettled flat v → IsSettled flat w
     → ((b : ℕ) → (IsCellBit flat b → ⊥) → v b ≡ w b) → (b : ℕ) → v b ≡ w b
+
+-- a settled valuation with given values of the bits that input ports and flops drive
+pub record HasSettled (flat : Flat) (leaves : Valuation) : Type 0 where
+  pub valuation : Valuation
+  pub settled : IsSettled flat valuation
+  pub agrees : (b : ℕ) → IsFlopBit flat b ⊎ IsInputBit flat b → valuation b ≡ leaves b
+
+-- a netlist without loops and with one driver for each bit has a settled valuation for all values of the bits that input
+-- ports and flops drive
+unfoldable pub SomeSettledLaw : Type 0
+SomeSettledLaw = (flat : Flat) (rank : ℕ → ℕ) → IsRanked flat rank → HasOneDriver flat → (leaves : Valuation) → HasSettled flat leaves
 
 -- two rows that are forced and agree on the bits that no cell drives are one
 unfoldable pub OneForcedLaw : Type 0
@@ -170,7 +182,7 @@ EndLaw =
     → ((b : ℕ) → (IsCellBit flat b → ⊥) → Contains leaves b ⊎ (old b ≡ new b)) → IsCellOrder flat [] order
     → (b : ℕ) → after_events flat new old (map leaf leaves ++ map cell order) b ≡ new b
 
--- the nodes of a run stand for its roots
+-- numbered nodes of the bits of a run stand for its roots
 unfoldable pub UnrolledLaw : Type 0
 UnrolledLaw =
     (flat : Flat) (setup : Setup) (cycles : ℕ) (rank : ℕ → ℕ) (row : ℕ → Row) (word : ℕ → ℕ → Row)
@@ -178,8 +190,8 @@ UnrolledLaw =
     → IsInRange flat
     → (root : ℕ → ℕ → Root) (rooted : ℕ → ℕ → ℕ → Root) → IsRooted flat setup cycles row root rooted
     → (index : ℕ → ℕ → ℕ) → ((t b s c : ℕ) → b < flat.bits → c < flat.bits → index t b ≡ index s c → (t ≡ s) × (b ≡ c))
-    → (nodes : ℕ → Node) (node_word : ℕ → ℕ → ℕ → Node)
-    → IsUnrolled flat setup cycles index row root (λ t b. nodes (index t b)) node_word
+    → (node : ℕ → ℕ → Node) (node_word : ℕ → ℕ → ℕ → Node) → IsUnrolled flat setup cycles index row root node node_word
+    → (nodes : ℕ → Node) → ((t b : ℕ) → t < cycles → b < flat.bits → nodes (index t b) ≡ node t b)
     → AreNodesOf flat cycles index row root nodes
 
 -- nodes that stand for the roots: two that lead to one origin have one root, and one whose root is an output leads to
@@ -230,6 +242,13 @@ RootSetsLaw =
     → ((t b s c : ℕ) → t < cycles → root t b ≡ output s c → s ≤ t)
     → (sets : ℕ → Labels) → AreNodeSets flat cycles index nodes sets
     → HasSelection flat cycles index row root sets
+
+-- a label is in the cone of a node exactly where it is in the cone of the root that the node stands for
+unfoldable pub ConesLaw : Type 0
+ConesLaw =
+    (flat : Flat) (cycles : ℕ) (index : ℕ → ℕ → ℕ) (row : ℕ → Row) (root : ℕ → ℕ → Root) (nodes : ℕ → Node)
+    → AreNodesOf flat cycles index row root nodes → IsInRange flat → HasOneDriver flat
+    → (t b l : ℕ) → t < cycles → b < flat.bits → IsInCone nodes l (index t b) ↔ IsInRootCone flat row root l (root t b)
 
 -- a run that is secure for its one calm-blocked reach is secure
 unfoldable pub SecureLaw : Type 0

@@ -1,11 +1,17 @@
 //! The laws of runs, each the contract of a function that does nothing: what is settled, known, calm, reached and rooted.
 #![tactic(auto)]
 
-ghost use Rattle.model_laws.specs.Laws.{OneSettledLaw, OneForcedLaw, KnownLaw, RequestsLaw, CalmLaw, WaveformLaw, RootLaw, OneRunLaw, OneKnownLaw, OneRootedLaw, OneReachLaw, OneWideReachLaw, NarrowReachLaw, SecureLaw, WidelySecureLaw, MeaningLaw, EndLaw, UnrolledLaw, NodesLaw, NodeSetsLaw, RootSetsLaw};
+ghost use Rattle.model_laws.specs.Laws.{OneSettledLaw, SomeSettledLaw, OneForcedLaw, KnownLaw, RequestsLaw, CalmLaw, WaveformLaw, RootLaw, OneRunLaw, OneKnownLaw, OneRootedLaw, OneReachLaw, OneWideReachLaw, NarrowReachLaw, SecureLaw, WidelySecureLaw, MeaningLaw, EndLaw, UnrolledLaw, NodesLaw, NodeSetsLaw, RootSetsLaw, ConesLaw};
 
 /// Two settled valuations that agree on the bits that no cell drives are one, where no cells make a loop.
 pub fn one_settled_law()
     ensures { OneSettledLaw }
+{}
+
+/// A netlist without loops and with one driver for each bit has a settled valuation for all values of the bits that input
+/// ports and flops drive.
+pub fn some_settled_law()
+    ensures { SomeSettledLaw }
 {}
 
 /// Two rows of what is forced that agree on the bits that no cell drives are one, where no cells make a loop.
@@ -109,4 +115,9 @@ pub fn node_sets_law()
 /// A selection of nodes is a selection of roots.
 pub fn root_sets_law()
     ensures { RootSetsLaw }
+{}
+
+/// The cone of a node is the cone of the root that it stands for.
+pub fn cones_law()
+    ensures { ConesLaw }
 {}

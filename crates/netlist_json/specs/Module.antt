@@ -1,5 +1,5 @@
--- A module of the JSON profile whose one port is an input of one bit and whose cells are and, exclusive or, not and
--- rising-edge flops, after `write_json` of the Yosys manual. Its wires have the numbers of the file.
+-- A module of the JSON form that is read: its one port is an input of one bit, and its cells are and, exclusive or, not
+-- and rising-edge flops, after `write_json` of the Yosys manual. Its wires have the numbers of the file.
 use Rattle.std.specs.Prelude.{ℕ, suc, List, [], ◌∷◌, ◌==◌, true, false, Bool, Option, Some, None, option_and_then, option_map, codes, if◌then◌else◌}
 use Rattle.std.specs.Str.{bytes_eq}
 use Rattle.serde_json.specs.Data.{Data, Members, no_members, member}

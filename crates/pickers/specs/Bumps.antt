@@ -1,9 +1,6 @@
 -- What pickers keep of the bumps that they were told.
-use Rattle.std.specs.Prelude.{ℕ, ◌+◌, ◌-◌, ◌^◌, List, length, min, slice_index, slice_set, if◌then◌else◌, nat_lt}
-
--- one more, up to the last value of a u64
-abbrev pub next_count : ℕ → ℕ
-next_count n = min (n + 1) (2 ^ 64 - 1)
+use Rattle.std.specs.Prelude.{ℕ, List, length, slice_index, slice_set, if◌then◌else◌, nat_lt}
+use Rattle.coco_base.specs.Causes.{next_count}
 
 -- bumps by variable, after one more of this variable; one beyond the list changes nothing
 abbrev pub counted : List ℕ → ℕ → List ℕ

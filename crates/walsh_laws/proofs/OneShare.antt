@@ -70,6 +70,7 @@ table name = record {
   shared = only_member (λ (s : SecretPlan). 0 < s.shares) _ (lit≤ tt);
   mask_wide = λ m h. absurd (Contains-none m h);
   fresh_wide = λ m h. absurd (Contains-none m h);
+  few = lit≤ tt;
   once = ((λ h. number_apart 1 0 (λ e. omega arith) h), ((λ h. Contains-none 1 h), tt));
   each = λ l. (below l, listed l);
   fresh_once = tt;
@@ -99,6 +100,7 @@ clock name b e = subst (IsClock (one_register name)) (let f : 0 ≡ b = cc in f)
 bound_to : (name : Text) → IsBoundTo (one_register name) (one_share_setup name)
 bound_to name = record {
   table = table name;
+  fresh_labels = lit≤ tt;
   starts = refl;
   labels = λ s h. start s (Contains-cases (Public false) s (Label 0 ∷ []) h);
   input_labels = λ p h. absurd (Contains-none p h);

@@ -47,8 +47,8 @@ module _ (flat : Flat) (setup : Setup) (cycles : ℕ) (rank : ℕ → ℕ) (row 
       node_sets : (t b : ℕ) → t < cycles → b < flat.bits → IsNodeSet sets (index t b) (get_or nodes (index t b) Nothing)
       node_sets t b below inside =
           node_set_by sets (index t b) (get_or numbers (index t b) 0) (get_or nodes (index t b) Nothing)
-          (w.is_try.selection.allowed (index t b) (over.listed.within t b below inside))
-          (w.is_try.selection.follows (index t b) (over.listed.within t b below inside))
+          (w.candidate.selection.allowed (index t b) (over.listed.within t b below inside))
+          (w.candidate.selection.follows (index t b) (over.listed.within t b below inside))
 
       go : HasSelection flat cycles index row root sets → HasFinding flat setup cycles d
       go h = record {
@@ -66,12 +66,12 @@ module _ (flat : Flat) (setup : Setup) (cycles : ℕ) (rank : ℕ → ℕ) (row 
         pairs = pairs;
         set_of = h.set_of;
         finding = record {
-          some = w.is_try.some;
-          most = w.is_try.most;
-          each = w.is_try.each;
-          different = ascending_once probes w.is_try.ascending;
-          once = ascending_once pairs w.is_try.in_order;
-          seen = w.is_try.seen;
+          some = w.candidate.some;
+          most = w.candidate.most;
+          each = w.candidate.each;
+          different = ascending_once probes w.candidate.ascending;
+          once = ascending_once pairs w.candidate.in_order;
+          seen = w.candidate.seen;
           selection = h.selection;
           member = w.leaks.member;
           not_empty = sym (same w.leaks.member) ∙ w.leaks.not_empty;
@@ -81,9 +81,9 @@ module _ (flat : Flat) (setup : Setup) (cycles : ℕ) (rank : ℕ → ℕ) (row 
         where
           same : (l : ℕ) → set_of_nodes index sets pairs l ≡ set_of_pairs root h.set_of pairs l
           same l = ap parity (map-cong (λ (u : Probe). sets (index u.cycle u.bit) l) (λ (u : Probe). h.set_of (root u.cycle u.bit) l) pairs
-              (λ u i. h.same u.cycle u.bit l (seen_cycle flat setup cycles row reach probes w.is_try.each u (w.is_try.seen u i))
-              (seen_inside flat setup cycles over.simulated.range row over.reached.calm reach are_reached row probes w.is_try.each u
-              (w.is_try.seen u i))))
+              (λ u i. h.same u.cycle u.bit l (seen_cycle flat setup cycles row reach probes w.candidate.each u (w.candidate.seen u i))
+              (seen_inside flat setup cycles over.simulated.range row over.reached.calm reach are_reached row probes w.candidate.each u
+              (w.candidate.seen u i))))
 
   -- the sets of nodes by those of roots
   set_at : (Root → Labels) → (i : ℕ) → (i < length nodes) ⊎ (length nodes ≤ i) → Labels
@@ -154,8 +154,8 @@ module _ (flat : Flat) (setup : Setup) (cycles : ℕ) (rank : ℕ → ℕ) (row 
         pairs = us.probes;
         numbers = numbers;
         sets = sets;
-        finding = record {
-          is_try = record {
+        is_try = record {
+          candidate = record {
             some = let e = ps.as_long in let k = h.finding.some in omega arith;
             most = let e = ps.as_long in let k = h.finding.most in omega arith;
             each = λ p i. h.finding.each p (ps.from p i);
@@ -165,13 +165,13 @@ module _ (flat : Flat) (setup : Setup) (cycles : ℕ) (rank : ℕ → ℕ) (row 
                 record { probe = s.probe; listed = ps.into s.probe s.listed; shows = s.shows; unknown = s.unknown };
             selection = node_selection;
           };
-          leaks = record {
-            member = h.finding.member;
-            not_empty = same h.finding.member ∙ h.finding.not_empty;
-            whole = subst (IsWhole setup.table) (fun_ext (λ l. sym (same l))) h.finding.whole;
-          };
+          elsewhere = record { zero = λ i below n. let k = number_is i below in k.1 ∙ (number_at i k.0).elsewhere n };
         };
-        elsewhere = record { zero = λ i below n. let k = number_is i below in k.1 ∙ (number_at i k.0).elsewhere n };
+        leaks = record {
+          member = h.finding.member;
+          not_empty = same h.finding.member ∙ h.finding.not_empty;
+          whole = subst (IsWhole setup.table) (fun_ext (λ l. sym (same l))) h.finding.whole;
+        };
       }
         where
           same : (l : ℕ) → set_of_nodes index sets us.probes l ≡ set_of_pairs root h.set_of h.pairs l

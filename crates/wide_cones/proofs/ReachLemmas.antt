@@ -1,26 +1,19 @@
 -- The leaves that a bit reaches, found by spreading each leaf alone.
-use Rattle.std.proofs.Common.{◌≡◌, ◌≢◌, ℕ, zero, suc, ◌+◌, ◌<◌, ◌≤◌, ◌⊎◌, inl, inr, Bool, true, false, List, [], ◌∷◌, ◌++◌, map, length, get_or, set, refl, sym, ◌∙◌, ap, subst, arith}
-use Rattle.std.specs.Prelude.{◌↔◌, Contains, slice_get, Option, Some, None, replicate, option_to_list, flat_map}
+use Rattle.std.proofs.Common.{◌≡◌, ◌≢◌, ℕ, zero, suc, ◌+◌, ◌<◌, ◌≤◌, ◌⊎◌, inl, inr, Bool, true, false, List, [], ◌∷◌, ◌++◌, length, get_or, set, refl, sym, ◌∙◌, ap, subst, arith}
+use Rattle.std.specs.Prelude.{◌↔◌, Contains, Option, replicate}
 use Rattle.std.specs.List.Sorted.{IsStrictlyIncreasing}
-use Rattle.std.proofs.lemmas.Grind.{common_steps}
 use Rattle.std.proofs.lemmas.Bool.{cases_eq, false≢true}
 use Rattle.std.proofs.lemmas.List.{get_or-set_same, get_or-set_other, length-replicate}
 use Rattle.std.proofs.lemmas.List.Elements.{Contains-append_left, Contains-append_right, Contains-push_cases}
 use Rattle.coco_base.specs.declared.netlist.Flat.{Flat}
-use Rattle.coco_base.specs.declared.netlist.FlatCell.{FlatCell}
 use Rattle.coco_base.specs.declared.netlist.FlatFlop.{FlatFlop}
-use Rattle.coco_base.specs.declared.netlist.Wire.TheVariants.{Bit}
 use Rattle.coco_base.specs.declared.setup.Setup.{Setup}
-use Rattle.coco_base.specs.declared.setup.InputPlan.{InputPlan}
-use Rattle.coco_base.specs.declared.setup.EchoPlan.{EchoPlan}
-use Rattle.coco_base.specs.declared.setup.MemPlan.{MemPlan}
-use Rattle.coco_model.specs.Netlist.{wires_of, IsCellBit, IsFlopBit, IsInputBit, IsLeaf}
-use Rattle.coco_model.specs.Carried.{bound_bits}
+use Rattle.coco_model.specs.Netlist.{wires_of, IsCellBit, IsFlopBit, IsLeaf}
 use Rattle.coco_model.specs.Reach.{AreConnected, Connects}
 use Rattle.coco_model.specs.Reach.Connects.{here, through}
-use Rattle.coco_model.proofs.Basics.{Contains-here, Contains-cases, Contains-none, some_from_any, any_from_member}
+use Rattle.coco_model.proofs.Basics.{Contains-here, Contains-none, some_from_any}
 use Rattle.model_laws.proofs.Ascending.{ascending_push}
-use Rattle.model_laws.proofs.Lists.{member_of_place, place_of_member}
+use Rattle.model_laws.proofs.Lists.{place_of_member}
 use Rattle.model_laws.proofs.Ranks.{flop_bit_or_not}
 use Rattle.wide_cones.specs.Ready.{IsReady}
 use Rattle.wide_cones.specs.Rows.{held, IsLeafRow, IsSpread}

@@ -1,11 +1,12 @@
 -- Probes whose cones hold all shares of a secret bit.
-use Rattle.std.specs.Prelude.{◌≡◌, ◌≢◌, ℕ, ◌<◌, ◌⊎◌, Option, Bool, true, false, List, [], length, get_or, slice_get, Some}
+use Rattle.std.specs.Prelude.{◌≡◌, ◌≢◌, ℕ, ◌<◌, Option, Bool, true, false, List, [], length, get_or, slice_get, Some}
 use Rattle.std.specs.List.{list_all}
 use Rattle.coco_base.specs.declared.netlist.Flat.{Flat}
 use Rattle.coco_base.specs.declared.setup.Setup.{Setup}
 use Rattle.coco_base.specs.declared.finding.Probe.{Probe}
 use Rattle.coco_model.specs.Labels.{secret_labels}
 use Rattle.coco_model.specs.Secure.{IsProbe}
+use Rattle.coco_model.specs.WrittenFindings.{ComesBefore}
 use Rattle.wide_laws.specs.WideCones.{LacksLabel, HidesSecrets, HoldsSecret}
 use Rattle.wide_cones.specs.declared.leak.Leak.{Leak}
 use Rattle.wide_cones.specs.Rows.{held}
@@ -40,10 +41,6 @@ pub record IsFirstBit (bits : ℕ) (clock : Option ℕ) (shown : List (List Bool
   pub first : IsFirstWhole shown sets found.0 found.1
   pub least : NoBitTo clock shown sets found.0
 
--- a probe comes before another: in an earlier cycle, or in the same with a lower bit
-abbrev pub IsEarlier : Probe → Probe → Type 0
-IsEarlier p q = (p.cycle < q.cycle) ⊎ ((p.cycle ≡ q.cycle) × (p.bit < q.bit))
-
 -- the first probe, by cycle and then by bit, whose cone holds all shares of a secret bit, and the number of the least such secret bit
 pub record IsFirstLeak (flat : Flat) (setup : Setup) (cycles : ℕ) (leak : Leak) : Type 0 where
   pub is_probe : IsProbe flat setup cycles leak.probe
@@ -51,4 +48,4 @@ pub record IsFirstLeak (flat : Flat) (setup : Setup) (cycles : ℕ) (leak : Leak
   pub at : slice_get (secret_labels setup.table.secrets) leak.secret ≡ Some shares
   pub holds : HoldsSecret flat setup leak.probe shares
   pub least : (i : ℕ) (labels : List ℕ) → i < leak.secret → slice_get (secret_labels setup.table.secrets) i ≡ Some labels → LacksLabel flat setup leak.probe labels
-  pub first : (p : Probe) → IsProbe flat setup cycles p → IsEarlier p leak.probe → HidesSecrets flat setup p
+  pub first : (p : Probe) → IsProbe flat setup cycles p → ComesBefore p leak.probe → HidesSecrets flat setup p

@@ -1,4 +1,4 @@
--- The laws of the first commands.
+-- The laws of structural cones that lack a share of every secret bit.
 use Rattle.std.specs.Prelude.{◌≡◌, ℕ, [], Contains, None}
 use Rattle.coco_base.specs.declared.netlist.Flat.{Flat}
 use Rattle.coco_base.specs.declared.netlist.FlatFlop.{FlatFlop}

@@ -1,5 +1,5 @@
-//! The laws behind the first commands: where no probe's structural cone holds all shares of a secret bit, equally many
-//! choices show any observation, and any waveforms, for any two values of the secrets.
+//! The laws of structural cones: where no probe's structural cone holds all shares of a secret bit, equally many choices
+//! show any observation, and any waveforms, for any two values of the secrets.
 #![tactic(auto)]
 
 ghost use Rattle.wide_laws.specs.Laws.{HiddenSharesLaw, HiddenInTimeLaw};

@@ -22,12 +22,13 @@ bits-preserved c = elim c.if-is_leaf.branch [
   | then-is_leaf+in_ok-is_connected+then-branch+in_ok-push w ↦ rw (w.leaves-is, w.in_ok-push.ensures.items)
       (connected_more c.args.flat.now c.args.setup.now.clock c.args.bit c.bits.leaves.items c.bits.leaf (w.in_ok-is_connected.ensures.0 w.if-branch.true) c.bits.invariant)
   | else-is_leaf w ↦ rw w.leaves-is (connected_passed c.args.flat.now c.args.setup.now.clock c.args.bit c.bits.leaves.items c.bits.leaf (elim w.else-is_leaf.branch [
-      | else-is_leaf-via-then-is_leaf+in_ok-is_connected+else-branch v ↦ λ walk. absurd (false≢true (sym v.if-branch.false ∙ v.in_ok-is_connected.ensures.1 walk))
-      | else-is_leaf-via-else-is_leaf v ↦ λ walk. absurd (false≢true (sym v.if-is_leaf.false ∙ c.is_leaf.ensures.1 (
-          (leaf_of_walk c.args.flat.now c.args.setup.now.clock c.bits.leaf c.args.bit walk).no_clock,
-          ap (λ r. held r c.bits.leaf) c.as_slice.ensures.value
-          ∙ (c.in_ok-flops.ensures c.bits.leaf).1 (leaf_flop c.args.flat.now c.args.setup.now c.requires c.bits.leaf (leaf_of_walk c.args.flat.now c.args.setup.now.clock c.bits.leaf c.args.bit walk)))))
-    ]) c.bits.invariant)
+    | else-is_leaf-via-then-is_leaf+in_ok-is_connected+else-branch v ↦ λ walk. absurd (false≢true (sym v.if-branch.false ∙ v.in_ok-is_connected.ensures.1 walk))
+    | else-is_leaf-via-else-is_leaf v ↦ λ walk. absurd (false≢true (sym v.if-is_leaf.false ∙ c.is_leaf.ensures.1 (
+      (leaf_of_walk c.args.flat.now c.args.setup.now.clock c.bits.leaf c.args.bit walk).no_clock,
+      ap (λ r. held r c.bits.leaf) c.as_slice.ensures.value
+          ∙ (c.in_ok-flops.ensures c.bits.leaf).1 (leaf_flop c.args.flat.now c.args.setup.now c.requires c.bits.leaf (leaf_of_walk c.args.flat.now c.args.setup.now.clock c.bits.leaf c.args.bit walk)),
+    )))
+  ]) c.bits.invariant)
 ]
 
 pub returns : goal.returns
