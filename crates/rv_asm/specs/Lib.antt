@@ -7,3 +7,4 @@ pub mod Registers
 pub mod Expressions
 pub mod Mnemonics
 pub mod Operands
+pub mod Statements

@@ -4,6 +4,7 @@
 
 mod expression;
 mod fault;
+mod forms;
 mod image;
 mod lines;
 mod mnemonics;
@@ -11,6 +12,7 @@ mod numbers;
 mod operands;
 mod reading;
 mod registers;
+mod statement;
 mod tokens;
 mod words;
 
