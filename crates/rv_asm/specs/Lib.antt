@@ -8,3 +8,6 @@ pub mod Expressions
 pub mod Mnemonics
 pub mod Operands
 pub mod Statements
+pub mod SourceLines
+pub mod Causes
+pub mod Names

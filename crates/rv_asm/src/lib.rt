@@ -3,15 +3,18 @@
 #![tactic(auto)]
 
 mod expression;
+mod cause;
 mod fault;
 mod forms;
 mod image;
 mod lines;
 mod mnemonics;
+mod names;
 mod numbers;
 mod operands;
 mod reading;
 mod registers;
+mod source_line;
 mod statement;
 mod tokens;
 mod words;
