@@ -2,3 +2,5 @@ mod ItemLemmas
 mod LineLemmas
 mod NumberLemmas
 mod WordLemmas
+mod NameLemmas
+mod ValueLemmas

@@ -11,3 +11,4 @@ pub mod Statements
 pub mod SourceLines
 pub mod Causes
 pub mod Names
+pub mod Values

@@ -17,6 +17,7 @@ mod registers;
 mod source_line;
 mod statement;
 mod tokens;
+mod values;
 mod words;
 
 pub use fault::AsmFault;

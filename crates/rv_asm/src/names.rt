@@ -60,10 +60,8 @@ impl Names {
         ensures { OnOk result (self.new ≡ self.old ++ (name.now, meaning) ∷ []) }
     {
         let key = Vec::from_slice(alloc, name)?;
-        match self.table.insert(key, meaning) {
-            Ok(_) => Ok(()),
-            Err(_) => Err(NoMemory),
-        }
+        self.table.insert(key, meaning)?;
+        Ok(())
     }
 
     /// Forgets all names but so many of the first.
