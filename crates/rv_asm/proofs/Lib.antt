@@ -4,3 +4,4 @@ mod NumberLemmas
 mod WordLemmas
 mod NameLemmas
 mod ValueLemmas
+mod DemandLemmas

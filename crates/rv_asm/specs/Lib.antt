@@ -12,3 +12,4 @@ pub mod SourceLines
 pub mod Causes
 pub mod Names
 pub mod Values
+pub mod Demands

@@ -47,23 +47,23 @@ abbrev pub written : Option ℤ → Result ℤ Cause
 written None = Err Range
 written (Some z) = Ok z
 
-abbrev pub term_value : Table → ℕ → Term → Result ℤ Cause
+abbrev pub term_value : Table → ℤ → Term → Result ℤ Cause
 term_value names here (Number n) = written n
 term_value names here (Name name) = value_of_meaning (meaning_of names name)
-term_value names here Here = Ok (pos here)
+term_value names here Here = Ok here
 
 abbrev pub moved : Bool → ℤ → ℤ → ℤ
 moved true z amount = z -ℤ amount
 moved false z amount = z +ℤ amount
 
 -- a number outside the range of numbers is a fault whatever the names are
-unfoldable pub sum_value : Table → ℕ → Sum → Result ℤ Cause
+unfoldable pub sum_value : Table → ℤ → Sum → Result ℤ Cause
 sum_value names here sum = do
   amount ← written sum.amount
   z ← term_value names here sum.term
   Ok (moved sum.minus z amount)
 
-unfoldable pub value_of : Table → ℕ → Expr → Result ℤ Cause
+unfoldable pub value_of : Table → ℤ → Expr → Result ℤ Cause
 value_of names here e = do
   z ← sum_value names here e.sum
   Ok (halves_of e.halves z)

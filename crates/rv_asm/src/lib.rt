@@ -4,6 +4,7 @@
 
 mod expression;
 mod cause;
+mod demands;
 mod fault;
 mod forms;
 mod image;

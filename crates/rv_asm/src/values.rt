@@ -61,7 +61,7 @@ fn written(number: Option<i64>) -> Result<i64, Cause>
     number.ok_or(Cause::Range)
 }
 
-fn term_value(names: &Names, here: u32, term: &Term) -> Result<i64, Cause>
+fn term_value(names: &Names, here: i64, term: &Term) -> Result<i64, Cause>
     ensures { Answers (λ z. z) result (term_value names.now here term.now) }
 {
     match term {
@@ -70,7 +70,7 @@ fn term_value(names: &Names, here: u32, term: &Term) -> Result<i64, Cause>
             Some(meaning) => Ok(meaning.value),
             None => Err(Cause::UnknownName),
         },
-        Term::Here => Ok(i64::from(here)),
+        Term::Here => Ok(here),
     }
 }
 
@@ -86,7 +86,7 @@ fn moved(minus: bool, value: i64, amount: i64) -> i128
 }
 
 #[tactic(auto, unfolding(crate::specs::Values::sum_value))]
-fn sum_value(names: &Names, here: u32, sum: &Sum) -> Result<i128, Cause>
+fn sum_value(names: &Names, here: i64, sum: &Sum) -> Result<i128, Cause>
     ensures { Answers (λ z. z) result (sum_value names.now here sum.now) }
 {
     let amount = written(sum.amount)?;
@@ -96,7 +96,7 @@ fn sum_value(names: &Names, here: u32, sum: &Sum) -> Result<i128, Cause>
 
 /// The value of an expression at an address, with the names that are defined.
 #[tactic(auto, unfolding(crate::specs::Values::value_of))]
-pub(crate) fn value_of(names: &Names, here: u32, expr: &Expr) -> Result<i128, Cause>
+pub(crate) fn value_of(names: &Names, here: i64, expr: &Expr) -> Result<i128, Cause>
     ensures { Answers (λ z. z) result (value_of names.now here expr.now) }
 {
     let value = sum_value(names, here, &expr.sum)?;
