@@ -13,3 +13,4 @@ pub mod Causes
 pub mod Names
 pub mod Values
 pub mod Demands
+pub mod Layouts

@@ -128,10 +128,10 @@ exponent_of n =
     else if n == 4096 then Some 12
     else None
 
--- an exponent from 0 to 12, and a power of two with such an exponent
+-- an exponent, and the exponent of a multiple
 abbrev pub power : Option ℤ → Option ℕ
 power None = None
-power (Some (pos n)) = if nat_le n 12 then Some n else None
+power (Some (pos n)) = Some n
 power (Some (negsuc n)) = None
 
 abbrev pub multiple : Option ℤ → Option ℕ

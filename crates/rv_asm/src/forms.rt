@@ -171,7 +171,7 @@ fn section(bytes: &[u8]) -> Result<Statement, Unread>
 }
 
 /// The exponent of a power of two, to 4096.
-fn exponent_of(number: u64) -> Option<u32>
+fn exponent_of(number: u64) -> Option<u64>
     ensures { result ≡ exponent_of number }
 {
     match number {
@@ -192,18 +192,18 @@ fn exponent_of(number: u64) -> Option<u32>
     }
 }
 
-/// An exponent that is taken.
-fn power(number: Option<i64>) -> Option<u32>
+/// A number that may be an exponent.
+fn power(number: Option<i64>) -> Option<u64>
     ensures { result ≡ power number }
 {
     match number {
-        Some(n) if 0 <= n && n <= 12 => Some(n as u32),
+        Some(n) if 0 <= n => Some(n as u64),
         _ => None,
     }
 }
 
 /// The exponent of a power of two that is taken.
-fn multiple(number: Option<i64>) -> Option<u32>
+fn multiple(number: Option<i64>) -> Option<u64>
     ensures { result ≡ multiple number }
 {
     match number {

@@ -4,6 +4,7 @@
 
 mod expression;
 mod cause;
+mod content;
 mod demands;
 mod fault;
 mod forms;
@@ -13,6 +14,7 @@ mod mnemonics;
 mod names;
 mod numbers;
 mod operands;
+mod place;
 mod reading;
 mod registers;
 mod source_line;

@@ -48,8 +48,8 @@ pub(crate) enum Statement {
     Enter(Part),
     /// So many bytes of zeros; as in `Term::Number`.
     Zeros(Option<i64>),
-    /// An alignment to 2 to this power; nothing stands for an alignment that is not taken.
-    Align(Option<u32>),
+    /// An alignment to 2 to this power; nothing stands for a number that is no exponent.
+    Align(Option<u64>),
     /// A name for a value.
     Equal { name: List<u8>, value: Expr },
 }

@@ -55,7 +55,7 @@ fn halves_of(halves: &[Half], value: i128) -> i128
 }
 
 /// A number as it is written.
-fn written(number: Option<i64>) -> Result<i64, Cause>
+pub(crate) fn written(number: Option<i64>) -> Result<i64, Cause>
     ensures { Answers (λ z. z) result (written number) }
 {
     number.ok_or(Cause::Range)
