@@ -5,3 +5,5 @@ mod WordLemmas
 mod NameLemmas
 mod ValueLemmas
 mod DemandLemmas
+mod LayoutLemmas
+mod PlacedLemmas

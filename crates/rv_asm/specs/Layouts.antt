@@ -138,6 +138,12 @@ equal_meaning names here name e =
     else if not (is_known names e) then Err UnknownName
     else value_of names here e >>= λ z. if is_stored Word z then Ok (record { value = z; is_number = true }) else Err Range
 
+-- the names with that one
+unfoldable pub equal_named : Table → ℤ → List ℕ → Expr → Result Table Cause
+equal_named names here name e = do
+  meaning ← equal_meaning names here name e
+  Ok (names ++ (name, meaning) ∷ [])
+
 -- labels stand for the address
 abbrev pub with_labels : Table → ℤ → List (List ℕ) → Result Table Cause
 with_labels names here [] = Ok names
@@ -173,16 +179,25 @@ pub record Taken : Type 0 where
 
 unfoldable pub equal_taken : Place → Table → List ℕ → Expr → Result Taken Cause
 equal_taken place names name e = do
-  meaning ← equal_meaning names (pos (address_of place)) name e
-  Ok (record { place = place; names = names ++ (name, meaning) ∷ []; content = None })
+  named ← equal_named names (pos (address_of place)) name e
+  Ok (record { place = place; names = named; content = None })
 
-unfoldable pub put_taken : Place → Table → Content → Result Taken Cause
-put_taken place names content =
-    if has_outside names place content then Err Range
-    else after_cells place (cells_filled place.part content) >>= λ after. Ok (record { place = after; names = names; content = Some content })
+-- the place behind a content, where no value is outside what is asked for
+unfoldable pub put_place : Place → Table → Content → Result Place Cause
+put_place place names content =
+    if has_outside names place content then Err Range else after_cells place (cells_filled place.part content)
+
+-- what a statement puts, and the place behind it
+unfoldable pub content_put : Place → Table → Statement → Result (Content × Place) Cause
+content_put place names s = do
+  content ← content_of place names s
+  after ← put_place place names content
+  Ok (content, after)
 
 unfoldable pub content_taken : Place → Table → Statement → Result Taken Cause
-content_taken place names s = content_of place names s >>= put_taken place names
+content_taken place names s = do
+  put ← content_put place names s
+  Ok (record { place = put.1; names = names; content = Some put.0 })
 
 abbrev pub statement_taken : Place → Table → Statement → Result Taken Cause
 statement_taken place names Nothing = Ok (record { place = place; names = names; content = None })

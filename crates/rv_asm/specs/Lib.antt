@@ -14,3 +14,4 @@ pub mod Names
 pub mod Values
 pub mod Demands
 pub mod Layouts
+pub mod Programs

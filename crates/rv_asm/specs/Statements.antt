@@ -1,6 +1,6 @@
 -- The statement that a line makes: what each mnemonic and directive stands for with its operands.
 -- RISC-V Unprivileged ISA, "RISC-V Assembly Programmer's Handbook": "RISC-V pseudoinstructions".
-use Rattle.std.specs.Prelude.{ℕ, ◌==◌, ◌^◌, nat_le, ℤ, pos, negsuc, neg_ℤ, Bool, true, false, if◌then◌else◌, List, [], ◌∷◌, length, Option, Some, None, codes}
+use Rattle.std.specs.Prelude.{ℕ, ◌==◌, ℤ, pos, negsuc, neg_ℤ, Bool, true, false, if◌then◌else◌, List, [], ◌∷◌, Option, Some, None, codes}
 use Rattle.std.specs.List.{starts_with}
 use Rattle.rv_isa.specs.declared.instruction.Instr.{Instr}
 use Rattle.rv_isa.specs.declared.instruction.Instr.TheVariants as instr
@@ -25,7 +25,7 @@ use Rattle.rv_asm.specs.declared.statement.Demand.TheVariants as for
 use Rattle.rv_asm.specs.declared.statement.Statement.{Statement}
 use Rattle.rv_asm.specs.declared.statement.Statement.TheVariants.{Nothing, Whole, Asks, LoadNumber, Enter, Zeros, Align, Equal}
 use Rattle.rv_asm.specs.Readings.{◌>>=◌, either}
-use Rattle.rv_asm.specs.Tokens.{ends, is_name, mark_at, name_at, word_at}
+use Rattle.rv_asm.specs.Tokens.{ends, mark_at, name_at}
 use Rattle.rv_asm.specs.Numbers.{number_at}
 use Rattle.rv_asm.specs.Registers.{register_at}
 use Rattle.rv_asm.specs.Operands.{indirect, indirect_alone, last, name_and_value, one_number, one_register, one_value, register_and_value, three_registers, two_registers, two_registers_and_value, values}

@@ -1,7 +1,7 @@
 //! What statements put at their place.
 ghost use Rattle.std.specs.Prelude.{◌≡◌, ◌<◌, ◌≤◌, ◌^◌, ℤ, pos, IfOk};
 ghost use Rattle.rv_asm.specs.Causes.{Answers};
-ghost use Rattle.rv_asm.specs.Layouts.{address_of, after_cells, align_content, cells_filled, cells_each, content_of, filler, gap, has_outside, load_content, source_value, whole_content, zero_content, zero_count};
+ghost use Rattle.rv_asm.specs.Layouts.{address_of, after_cells, align_content, cells_each, cells_filled, content_of, content_put, filler, gap, has_outside, load_content, source_value, whole_content, zero_content, zero_count};
 
 use crate::cause::Cause;
 use crate::demands::{any_outside, byte_count, fit_word, number_words, word_count};
@@ -120,10 +120,12 @@ fn align_content(place: Place, exponent: Option<u64>) -> Result<Content, Cause>
 }
 
 /// What a statement puts at a place.
-fn content_of(alloc: Global, place: Place, names: &Names, statement: Statement) -> Result<
-    Content,
-    Cause,
->
+fn content_of(
+    alloc: Global,
+    place: Place,
+    names: &Names,
+    statement: Statement,
+) -> Result<Content, Cause>
     ensures { Answers (λ c. c) result (content_of place names.now statement) }
 {
     match statement {
@@ -163,10 +165,12 @@ fn behind(place: Place, content: &Content) -> Result<Place, Cause>
 }
 
 /// Whether a value is known and outside what is asked for.
-fn has_outside(alloc: Global, names: &Names, place: Place, content: &Content) -> Result<
-    bool,
-    NoMemory,
->
+pub(crate) fn has_outside(
+    alloc: Global,
+    names: &Names,
+    place: Place,
+    content: &Content,
+) -> Result<bool, NoMemory>
     ensures { IfOk result (λ b. b ≡ has_outside names.now place content.now) }
 {
     match content {
@@ -175,4 +179,22 @@ fn has_outside(alloc: Global, names: &Names, place: Place, content: &Content) ->
         }
         _ => Ok(false),
     }
+}
+
+/// What a statement puts at a place, and the place behind it.
+#[tactic(auto, unfolding(crate::specs::Layouts::content_put, crate::specs::Layouts::put_place))]
+pub(crate) fn put(
+    alloc: Global,
+    place: Place,
+    names: &Names,
+    statement: Statement,
+) -> Result<(Content, Place), Cause>
+    ensures { Answers (λ p. p) result (content_put place names.now statement) }
+{
+    let content = content_of(alloc, place, names, statement)?;
+    if has_outside(alloc, names, place, &content)? {
+        return Err(Cause::Range);
+    }
+    let behind = behind(place, &content)?;
+    Ok((content, behind))
 }

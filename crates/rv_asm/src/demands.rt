@@ -13,14 +13,14 @@ use rv_isa::{ImmOp, Instr, encode, fits};
 use std::alloc::Global;
 
 /// A list of these words.
-fn listed(alloc: Global, words: &[u32]) -> Result<List<u32>, NoMemory>
+pub(crate) fn listed(alloc: Global, words: &[u32]) -> Result<List<u32>, NoMemory>
     ensures { IfOk result (λ l. l ≡ words.now) }
 {
     Ok(List::from_vec(Vec::from_slice(alloc, words)?))
 }
 
 /// Adds items at the end.
-pub(crate) fn extend(list: &mut List<u32>, items: &[u32]) -> Result<(), NoMemory>
+fn extend(list: &mut List<u32>, items: &[u32]) -> Result<(), NoMemory>
     ensures { OnOk result (list.new ≡ list.old ++ items.now) }
 {
     'items: for item in items {
@@ -174,7 +174,7 @@ fn field_words(alloc: Global, demand: Demand, here: i64, value: i128) -> Result<
     Ok(listed(alloc, &[word])?)
 }
 
-fn is_stored(size: Size, value: i128) -> bool
+pub(crate) fn is_stored(size: Size, value: i128) -> bool
     ensures { result ≡ is_stored size value }
 {
     match size {
@@ -228,10 +228,13 @@ pub(crate) fn byte_count(demand: Demand) -> u64
 
 /// The words that an expression stands for.
 #[tactic(auto, unfolding(crate::specs::Demands::words_at))]
-fn words_at(alloc: Global, names: &Names, here: i64, demand: Demand, value: &Expr) -> Result<
-    List<u32>,
-    Cause,
->
+fn words_at(
+    alloc: Global,
+    names: &Names,
+    here: i64,
+    demand: Demand,
+    value: &Expr,
+) -> Result<List<u32>, Cause>
     ensures { Answers (λ l. l) result (words_at names.now here demand value.now) }
 {
     let value = value_of(names, here, value)?;

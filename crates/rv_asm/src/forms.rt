@@ -7,7 +7,10 @@ ghost use Rattle.rv_asm.specs.Statements.{asks, auipc_at, bare, branch_at, copy_
 use crate::expression::{Expr, Term, copied};
 use crate::mnemonics::Form;
 use crate::numbers::number;
-use crate::operands::{indirect, indirect_alone, name_and_value, one_number, one_register, one_value, register_and_value, three_registers, two_registers, two_registers_and_value, values};
+use crate::operands::{
+    indirect, indirect_alone, name_and_value, one_number, one_register, one_value,
+    register_and_value, three_registers, two_registers, two_registers_and_value, values,
+};
 use crate::reading::Unread;
 use crate::registers::register;
 use crate::statement::{Demand, Part, Size, Statement};

@@ -2,13 +2,15 @@
 //! the operands of a statement.
 #![tactic(auto)]
 
-mod expression;
+mod assembler;
 mod cause;
 mod content;
 mod demands;
+mod expression;
 mod fault;
 mod forms;
 mod image;
+mod layout;
 mod lines;
 mod mnemonics;
 mod names;
@@ -23,9 +25,12 @@ mod tokens;
 mod values;
 mod words;
 
+pub use assembler::assemble;
 pub use fault::AsmFault;
 pub use image::Image;
 pub use words::read_words;
 
+#[cfg(test)]
+mod assembler_tests;
 #[cfg(test)]
 mod tests;

@@ -1,5 +1,5 @@
 //! The names that are defined so far, and what they stand for.
-ghost use Rattle.std.specs.Prelude.{◌≡◌, List, [], ◌∷◌, ◌++◌, length, take, None, OnOk};
+ghost use Rattle.std.specs.Prelude.{◌≡◌, List, [], ◌∷◌, ◌++◌, length, take, None, OnErr, OnOk};
 ghost use Rattle.rv_asm.specs.Names.{meaning_of};
 
 use coco_base::NoMemory;
@@ -55,9 +55,15 @@ impl Names {
     }
 
     /// Defines a name that is not defined yet.
-    pub(crate) fn add(&mut self, alloc: Global, name: &[u8], meaning: Meaning) -> Result<(), NoMemory>
+    pub(crate) fn add(
+        &mut self,
+        alloc: Global,
+        name: &[u8],
+        meaning: Meaning,
+    ) -> Result<(), NoMemory>
         requires { meaning_of self.old name.now ≡ None }
-        ensures { OnOk result (self.new ≡ self.old ++ (name.now, meaning) ∷ []) }
+        ensures ok { OnOk result (self.new ≡ self.old ++ (name.now, meaning) ∷ []) }
+        ensures err { OnErr result (self.new ≡ self.old) }
     {
         let key = Vec::from_slice(alloc, name)?;
         self.table.insert(key, meaning)?;

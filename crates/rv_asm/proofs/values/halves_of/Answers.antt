@@ -1,9 +1,7 @@
-use Rattle.std.proofs.Common.{◌≡◌, ◌-◌, length, take, ℤ, subst, sym}
 use mir.Syntax.{w128}
 use mir.Val.{SFits}
 use Rattle.std.proofs.lemmas.Int.{to_z-of_z}
 use Rattle.std.proofs.Common.{rules}
-use Rattle.rv_asm.specs.Values.{halves_of}
 use Rattle.rv_asm.proofs.ValueLemmas.{halves_of-step}
 use Rattle.rv_asm.proofs.values.halves_of.Goals as goal
 

@@ -1,11 +1,11 @@
-use Rattle.std.proofs.Common.{◌≡◌, ℕ, List, [], ◌∷◌, ◌++◌, None, sym, ap, ◌∙◌, nat_eq, subst}
+use Rattle.std.proofs.Common.{◌≡◌, [], ◌∷◌, ◌++◌, None, ap, ◌∙◌}
 use Rattle.indexmap.proofs.CallerLemmas.{insert_entry-new}
 use Rattle.rv_asm.specs.Names.{bytes_of_keys, meaning_of}
 use Rattle.rv_asm.proofs.NameLemmas.{lookup_bytes, bytes_of_keys-more}
 use Rattle.rv_asm.proofs.names.Names.add.Goals as goal
 
-pub returns : goal.returns
-returns c =
+pub returns-clause-ok : goal.returns-clause-ok
+returns-clause-ok c =
     let entries = c.self.inside.table.entries in
     let key = c.in_ok-key.key in
     let same : key.items ≡ c.args.name.now = c.in_ok-key.ensures.items in

@@ -1,4 +1,4 @@
-use Rattle.std.proofs.Common.{sym, ap, ◌∙◌}
+use Rattle.std.proofs.Common.{ap, ◌∙◌}
 use Rattle.rv_asm.specs.Names.{meaning_of}
 use Rattle.rv_asm.proofs.NameLemmas.{lookup_bytes}
 use Rattle.rv_asm.proofs.names.Names.get.Goals as goal

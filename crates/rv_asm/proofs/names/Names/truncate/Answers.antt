@@ -1,4 +1,4 @@
-use Rattle.std.proofs.Common.{sym, ap, ◌∙◌, take}
+use Rattle.std.proofs.Common.{ap, ◌∙◌, take}
 use Rattle.rv_asm.specs.Names.{bytes_of_keys}
 use Rattle.rv_asm.proofs.NameLemmas.{bytes_of_keys-take}
 use Rattle.rv_asm.proofs.names.Names.truncate.Goals as goal
