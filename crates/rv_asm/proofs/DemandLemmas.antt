@@ -7,6 +7,3 @@ use Rattle.rv_asm.specs.Causes.{◌>>=◌}
 -- words that were found, and then more
 abbrev pub onto : List ℕ → Result (List ℕ) Cause → Result (List ℕ) Cause
 onto found more = more >>= λ ws. Ok (found ++ ws)
-
-drop_split : (es : List Expr) (i : ℕ) (d : Expr) → i < length es → drop i es ≡ get_or es i d ∷ drop (i + 1) es
-drop_split es i d lt = rw add-one (drop-cons es i d lt)

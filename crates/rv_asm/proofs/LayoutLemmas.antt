@@ -24,9 +24,6 @@ after_lines-append layout n (l ∷ ls) line =
       | Err e ↦ refl
     ]
 
-pub laying_starts : (all : List (List ℕ)) (layout : Layout) → layout ≡ start → IsLaying all all layout 0
-laying_starts all layout is = record { before = []; whole = refl; number = omega arith; laid = ap Ok (sym is) }
-
 pub laying_goes_on : (all rest : List (List ℕ)) (line : List ℕ) (old new : Layout) (n m : ℕ) → IsLaying all (line ∷ rest) old n → m ≡ min (n + 1) last_line → after_line old m line ≡ Ok new → IsLaying all rest new m
 laying_goes_on all rest line old new n m r number taken =
     let here : m ≡ number_after (0 + length r.before) = omega (arith, r.number) in
@@ -38,32 +35,15 @@ laying_goes_on all rest line old new n m r number taken =
       laid = after_lines-append start 0 r.before line ∙ ap (λ o. o >>= λ next. after_line next (number_after (0 + length r.before)) line >>= λ last. Ok last) r.laid ∙ ap (λ o. o >>= λ last. Ok last) step;
     }
 
-pub laying_ends : (all : List (List ℕ)) (layout : Layout) (n : ℕ) → IsLaying all [] layout n → layout_of all ≡ Ok layout
-laying_ends all layout n r = let whole : r.before ≡ all = sym (r.whole ∙ append-nil r.before) in ap layout_of (sym whole) ∙ r.laid
-
-pub laying_stops : (all rest : List (List ℕ)) (line : List ℕ) (layout : Layout) (n m : ℕ) (c : Cause) → IsLaying all (line ∷ rest) layout n → m ≡ min (n + 1) last_line → after_line layout m line ≡ Err c → StopsAt all layout m c
-laying_stops all rest line layout n m c r number fails = record { before = r.before; line = line; after = rest; whole = r.whole; number_is = omega (arith, r.number); laid = r.laid; fails = fails }
-
 -- ---- faults of programs
 
-pub fault_is : (ls : List (List ℕ)) (f : AsmFault) → StopsWith ls f ⊎ FailsWith ls f → IsFaultOf ls f
+fault_is : (ls : List (List ℕ)) (f : AsmFault) → StopsWith ls f ⊎ FailsWith ls f → IsFaultOf ls f
 fault_is ls (fault.BadLine n) h = h
 fault_is ls (fault.UnknownName n) h = h
 fault_is ls (fault.Range n) h = h
 fault_is ls (fault.Twice n) h = h
 fault_is ls fault.Memory h = tt
 
--- a line before the one that stops the reading has a value outside what is asked for
-pub stops_outside : (ls : List (List ℕ)) (layout : Layout) (f : AsmFault) (n : ℕ) → IsCutBy ls layout (Some f) → IsOutsideAt layout.names layout.placed n → IsFaultOf ls (fault.Range n)
-stops_outside ls layout f n cut outside = inl (record { layout = layout; number = cut.0; cause = cut.1; stops = cut.2; early = inl (n, outside, refl) })
-
--- none has
+-- no line before the one that stops the reading has a value outside what is asked for
 pub stops_itself : (ls : List (List ℕ)) (layout : Layout) (f : AsmFault) → IsCutBy ls layout (Some f) → AreWithin layout.names layout.placed → IsFaultOf ls f
 stops_itself ls layout f cut within = fault_is ls f (inl (record { layout = layout; number = cut.0; cause = cut.1; stops = cut.2; early = inr (within, cut.3) }))
-
-pub fails_later : (ls : List (List ℕ)) (layout : Layout) (f : AsmFault) → layout_of ls ≡ Ok layout → FailsUnlessMemory layout.names layout.placed f → IsFaultOf ls f
-fails_later ls layout (fault.BadLine n) laid fails = inr (record { layout = layout; laid = laid; fails = fails })
-fails_later ls layout (fault.UnknownName n) laid fails = inr (record { layout = layout; laid = laid; fails = fails })
-fails_later ls layout (fault.Range n) laid fails = inr (record { layout = layout; laid = laid; fails = fails })
-fails_later ls layout (fault.Twice n) laid fails = inr (record { layout = layout; laid = laid; fails = fails })
-fails_later ls layout fault.Memory laid fails = tt

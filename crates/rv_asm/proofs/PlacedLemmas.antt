@@ -10,8 +10,8 @@ use Rattle.rv_asm.specs.declared.cause.Cause.TheVariants as cause
 use Rattle.rv_asm.specs.declared.layout.Placed.{Placed}
 use Rattle.rv_asm.specs.Causes.{Fails, fault_of}
 use Rattle.rv_asm.specs.Names.{Table}
-use Rattle.rv_asm.specs.Layouts.{has_outside}
-use Rattle.rv_asm.specs.Programs.{AreRight, AreWithin, bytes_each, data_bytes, FailsAt, FailsUnlessMemory, found, HasPut, in_data, in_text, IsOutsideAt, PutsWords, text_lines, text_words, words_of}
+use Rattle.rv_asm.specs.Layouts.{bytes_each, has_outside}
+use Rattle.rv_asm.specs.Programs.{AreRight, AreWithin, data_bytes, FailsAt, FailsUnlessMemory, found, HasPut, in_data, in_text, IsOutsideAt, PutsWords, text_lines, text_words, words_of}
 
 -- the list up to an item, the item, and what follows it
 split_at : (ps : List Placed) (i : ℕ) (p : Placed) → i < length ps → p ≡ get_or ps i p → ps ≡ take i ps ++ p ∷ drop (i + 1) ps

@@ -114,15 +114,23 @@ content_of place names (Zeros number) = zero_content place.part number
 content_of place names (Align exponent) = align_content place exponent
 content_of place names s = Ok (Known [])
 
--- how many cells a content fills
-abbrev pub cells_each : Part → Demand → ℕ
-cells_each Text demand = word_count demand
-cells_each Data demand = byte_count demand
+-- how many words a content stands for
+abbrev pub words_in : Content → ℕ
+words_in (Known words) = length words
+words_in (Fill count word) = count
+words_in (Asked demand values) = word_count demand * length values
 
+-- how many bytes of each word stand in the data, the lowest first; a filling is given byte by byte, and the data has no
+-- instructions
+abbrev pub bytes_each : Content → ℕ
+bytes_each (Known words) = 4
+bytes_each (Fill count word) = 1
+bytes_each (Asked demand values) = byte_count demand
+
+-- how many cells a content fills: words of the text, or bytes of the data
 abbrev pub cells_filled : Part → Content → ℕ
-cells_filled part (Known words) = length words
-cells_filled part (Fill count word) = count
-cells_filled part (Asked demand values) = cells_each part demand * length values
+cells_filled Text content = words_in content
+cells_filled Data content = bytes_each content * words_in content
 
 -- whether a value is known and outside what is asked for
 abbrev pub has_outside : Table → Place → Content → Bool

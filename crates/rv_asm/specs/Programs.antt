@@ -20,8 +20,8 @@ use Rattle.rv_asm.specs.Causes.{◌>>=◌, fault_of}
 use Rattle.rv_asm.specs.Lines.{number_after}
 use Rattle.rv_asm.specs.Names.{Table}
 use Rattle.rv_asm.specs.Values.{is_known}
-use Rattle.rv_asm.specs.Demands.{all_words, byte_count}
-use Rattle.rv_asm.specs.Layouts.{address_of, has_outside, line_taken, Taken}
+use Rattle.rv_asm.specs.Demands.{all_words}
+use Rattle.rv_asm.specs.Layouts.{address_of, bytes_each, has_outside, line_taken, Taken}
 
 -- ---- lines one after the other
 
@@ -67,12 +67,6 @@ words_placed names place (Asked demand values) =
 
 abbrev pub words_of : Table → Placed → Result (List ℕ) Cause
 words_of names p = words_placed names p.place p.content
-
--- how many bytes of each word stand in the data
-abbrev pub bytes_each : Content → ℕ
-bytes_each (Known words) = 4
-bytes_each (Fill count word) = 1
-bytes_each (Asked demand values) = byte_count demand
 
 -- the lowest byte first
 abbrev pub stored_bytes : ℕ → List ℕ → List ℕ

@@ -2,11 +2,11 @@
 ghost use Rattle.std.specs.Prelude.{◌≡◌, ◌<◌, ◌≤◌, [], ◌∷◌, ◌++◌, length, map, replicate, IfErr, IfOk, IfSome, MatchOption, OnOk};
 ghost use Rattle.std.specs.Str.Lines.{lines};
 ghost use Rattle.rv_asm.specs.Causes.{Answers};
-ghost use Rattle.rv_asm.specs.Programs.{all_known, AreWithin, bytes_each, FailsUnlessMemory, HasPlaced, HasPut, IsFaultOf, IsImageOf, IsOutsideAt, PutsWords, stored_bytes, words_of, words_of_bytes};
+ghost use Rattle.rv_asm.specs.Programs.{all_known, AreWithin, FailsUnlessMemory, HasPlaced, HasPut, IsFaultOf, IsImageOf, IsOutsideAt, PutsWords, stored_bytes, words_of, words_of_bytes};
 
 use crate::cause::Cause;
-use crate::content::{Content, has_outside};
-use crate::demands::{all_words, byte_count, listed};
+use crate::content::{Content, bytes_each, has_outside};
+use crate::demands::{all_words, listed};
 use crate::expression::Expr;
 use crate::fault::AsmFault;
 use crate::image::Image;
@@ -55,18 +55,6 @@ fn words_of(alloc: Global, names: &Names, placed: &Placed) -> Result<List<u32>, 
                 Err(Cause::UnknownName)
             }
         }
-    }
-}
-
-/// How many bytes of each word stand in the data.
-fn bytes_each(content: &Content) -> u64
-    ensures value { result ≡ bytes_each content.now }
-    ensures small { result ≤ 4 }
-{
-    match content {
-        Content::Known(_) => 4,
-        Content::Fill { .. } => 1,
-        Content::Asked { demand, .. } => byte_count(*demand),
     }
 }
 

@@ -1,7 +1,7 @@
 //! What statements put at their place.
-ghost use Rattle.std.specs.Prelude.{◌≡◌, ◌<◌, ◌≤◌, ◌^◌, ℤ, pos, IfOk};
+ghost use Rattle.std.specs.Prelude.{min, ◌≡◌, ◌<◌, ◌≤◌, ◌^◌, ℤ, pos, IfOk};
 ghost use Rattle.rv_asm.specs.Causes.{Answers};
-ghost use Rattle.rv_asm.specs.Layouts.{address_of, after_cells, align_content, cells_each, cells_filled, content_of, content_put, filler, gap, has_outside, load_content, source_value, whole_content, zero_content, zero_count};
+ghost use Rattle.rv_asm.specs.Layouts.{address_of, after_cells, align_content, bytes_each, cells_filled, content_of, content_put, filler, gap, has_outside, load_content, source_value, whole_content, words_in, zero_content, zero_count};
 
 use crate::cause::Cause;
 use crate::demands::{any_outside, byte_count, fit_word, number_words, word_count};
@@ -138,14 +138,28 @@ fn content_of(
     }
 }
 
-fn cells_each(part: Part, demand: Demand) -> u64
-    ensures value { result ≡ cells_each part demand }
+/// How many words a content stands for; beyond 5000, which have no room, some number beyond.
+fn words_in(content: &Content) -> u64
+    ensures value { min result 5000 ≡ min (words_in content.now) 5000 }
+    ensures small { result ≤ 10000 }
+{
+    match content {
+        Content::Known(words) => words.len().min(5000) as u64,
+        Content::Fill { count, .. } => (*count).min(5000),
+        Content::Asked { demand, values } => word_count(*demand) * values.len().min(5000) as u64,
+    }
+}
+
+/// How many bytes of each word stand in the data.
+pub(crate) fn bytes_each(content: &Content) -> u64
+    ensures value { result ≡ bytes_each content.now }
     ensures some { 1 ≤ result }
     ensures small { result ≤ 4 }
 {
-    match part {
-        Part::Text => word_count(demand),
-        Part::Data => byte_count(demand),
+    match content {
+        Content::Known(_) => 4,
+        Content::Fill { .. } => 1,
+        Content::Asked { demand, .. } => byte_count(*demand),
     }
 }
 
@@ -153,15 +167,11 @@ fn cells_each(part: Part, demand: Demand) -> u64
 fn behind(place: Place, content: &Content) -> Result<Place, Cause>
     ensures { Answers (λ p. p) result (after_cells place (cells_filled place.part content.now)) }
 {
-    let count = match content {
-        Content::Known(words) => words.len() as u64,
-        Content::Fill { count, .. } => *count,
-        // More values than cells have no room, however many there are.
-        Content::Asked { demand, values } => {
-            cells_each(place.part, *demand) * values.len().min(5000) as u64
-        }
-    };
-    place.after_cells(count)
+    let words = words_in(content);
+    match place.part {
+        Part::Text => place.after_cells(words),
+        Part::Data => place.after_cells(bytes_each(content) * words),
+    }
 }
 
 /// Whether a value is known and outside what is asked for.
