@@ -7,3 +7,4 @@ mod ValueLemmas
 mod DemandLemmas
 mod LayoutLemmas
 mod PlacedLemmas
+mod RoomLemmas

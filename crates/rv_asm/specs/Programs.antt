@@ -1,5 +1,5 @@
 -- Programs: what their lines do one after the other, the image that they mean, and which fault they have.
-use Rattle.std.specs.Prelude.{◌≡◌, ◌⊎◌, ℕ, pos, ◌+◌, Bool, false, true, if◌then◌else◌, List, [], ◌∷◌, ◌++◌, length, map, take, flat_map, Option, Some, None, Result, Ok, Err, IsOk, replicate}
+use Rattle.std.specs.Prelude.{◌≡◌, ◌≤◌, ◌⊎◌, ℕ, pos, ◌+◌, Bool, false, true, if◌then◌else◌, List, [], ◌∷◌, ◌++◌, length, map, take, flat_map, Option, Some, None, Result, Ok, Err, IsOk, replicate}
 use Rattle.std.specs.List.{All, list_all}
 use Rattle.std.specs.Int.{from_le_bytes, to_le_bytes, w32}
 use Rattle.rv_asm.specs.declared.cause.Cause.{Cause}
@@ -18,6 +18,7 @@ use Rattle.rv_asm.specs.declared.layout.Layout.{Layout}
 use Rattle.rv_asm.specs.declared.assembler.Memory.{Memory}
 use Rattle.rv_asm.specs.Causes.{◌>>=◌, fault_of}
 use Rattle.rv_asm.specs.Lines.{number_after}
+use Rattle.rv_asm.specs.WordFile.{most_words}
 use Rattle.rv_asm.specs.Names.{Table}
 use Rattle.rv_asm.specs.Values.{is_known}
 use Rattle.rv_asm.specs.Demands.{all_words}
@@ -134,6 +135,12 @@ pub record IsImageOf (ls : List (List ℕ)) (image : Image) : Type 0 where
   pub layout : Layout
   pub laid : layout_of ls ≡ Ok layout
   pub has : HasPlaced layout.names layout.placed image
+
+-- an image that has room in memory
+pub record HasRoom (image : Image) : Type 0 where
+  pub text : length image.text ≤ most_words
+  pub lines : length image.lines ≡ length image.text
+  pub values : length image.values ≤ 1024
 
 -- ---- faults
 

@@ -2,7 +2,7 @@
 ghost use Rattle.std.specs.Prelude.{◌≡◌, ◌<◌, ◌≤◌, [], ◌∷◌, ◌++◌, length, map, replicate, IfErr, IfOk, IfSome, MatchOption, OnOk};
 ghost use Rattle.std.specs.Str.Lines.{lines};
 ghost use Rattle.rv_asm.specs.Causes.{Answers};
-ghost use Rattle.rv_asm.specs.Programs.{all_known, AreWithin, FailsUnlessMemory, HasPlaced, HasPut, IsFaultOf, IsImageOf, IsOutsideAt, PutsWords, stored_bytes, words_of, words_of_bytes};
+ghost use Rattle.rv_asm.specs.Programs.{all_known, AreWithin, FailsUnlessMemory, HasPlaced, HasPut, HasRoom, IsFaultOf, IsImageOf, IsOutsideAt, PutsWords, stored_bytes, words_of, words_of_bytes};
 
 use crate::cause::Cause;
 use crate::content::{Content, bytes_each, has_outside};
@@ -179,9 +179,16 @@ fn outside_line(alloc: Global, names: &Names, placed: &[Placed]) -> Result<Optio
     Ok(None)
 }
 
-/// The image of a program in assembly.
+/// The image of a program in assembly, which `docs/formats-assembly.md` describes.
+///
+/// Each line has labels and then a statement or none. The image has the words of the text, the line of each, and the words
+/// of the data. The least line at fault is answered: `BadLine` for a line outside the language, `Twice` for a name that is
+/// defined before, `UnknownName` for a name that is not defined, and `Range` for a value outside its field or a part
+/// without room, in this order within a line. The least line that is at fault by what it and the lines before it hold
+/// stops the reading: then values before it are outside their fields only by the names of the lines before it.
 pub fn assemble(alloc: Global, bytes: &[u8]) -> Result<Image, AsmFault>
     ensures image { IfOk result (IsImageOf (lines bytes.now)) }
+    ensures room { IfOk result HasRoom }
     ensures fault { IfErr result (IsFaultOf (lines bytes.now)) }
 {
     let Cut { layout, fault } = lay_out(alloc, bytes)?;

@@ -162,6 +162,34 @@ fn labels_and_lines(rt: HostRuntime) {
     }
 }
 
+// Words by hand from the manual's formats, as above.
+#[test]
+fn program_of_the_document(rt: HostRuntime) {
+    let alloc = rt.alloc();
+    let program = b"start:  li t0, 0x12345678   # two words: lui and addi
+loop:   addi t0, t0, -1
+        bnez t0, loop
+        la a0, table        // always two words
+        lw a1, 4(a0)
+        ret
+        .data
+table:  .word 1, table+4
+        .byte 7
+";
+    let text = [
+        0x123452b7, 0x67828293, 0xfff28293, 0xfe029ee3, 0x00010537, 0x00050513, 0x00452583,
+        0x00008067,
+    ];
+    match assemble(alloc, program) {
+        Ok(image) => {
+            assert!(rt; image.text.as_slice() == text.as_slice());
+            assert!(rt; image.lines.as_slice() == [1, 1, 2, 3, 4, 4, 5, 6].as_slice());
+            assert!(rt; image.values.as_slice() == [1, 0x00010004, 7].as_slice());
+        }
+        Err(_) => panic!(rt; "no image"),
+    }
+}
+
 #[test]
 fn faults(rt: HostRuntime) {
     let alloc = rt.alloc();

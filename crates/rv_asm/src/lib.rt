@@ -1,5 +1,4 @@
-//! Programs for RV32I as images of words, from a file of words; and the parts of the lines of an assembler, from bytes to
-//! the operands of a statement.
+//! Programs for RV32I as images of words, from assembly and from files of words.
 #![tactic(auto)]
 
 mod assembler;
