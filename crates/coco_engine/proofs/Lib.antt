@@ -3,6 +3,5 @@ pub mod LabelLines
 pub mod LabelNumbers
 pub mod LabelTables
 pub mod Pieces
-pub mod Ranges
 pub mod SetupLemmas
 pub mod Stops

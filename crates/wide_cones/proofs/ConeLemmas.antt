@@ -26,57 +26,33 @@ use Rattle.coco_model.specs.Reach.Connects.{here, through}
 use Rattle.coco_model.specs.Roots.{roots}
 use Rattle.coco_model.specs.Roots.Root.{label}
 use Rattle.coco_model.proofs.Basics.{Contains-here, Contains-later, Contains-cases, Contains-none, some_from_any, any_from_member}
+use Rattle.model_laws.proofs.Apart.{apart_parts}
 use Rattle.model_laws.proofs.Lists.{Contains-map, place_of_member}
 use Rattle.model_laws.proofs.Ranks.{by_rank, flop_bit_or_not}
+use Rattle.model_laws.proofs.Sources.{flop_no_cell}
 use Rattle.wide_laws.specs.WideCones.{IsInWideCone}
 use Rattle.wide_laws.specs.WideCones.IsInWideCone.{starts, moves, passes}
 use Rattle.wide_cones.specs.Rows.{held, wire_held, is_label, IsSpread, IsLeafRow, IsConeRow, IsProbeRow}
 use Rattle.wide_cones.specs.Ready.{IsReady}
 
+abbrev cell_outputs : Flat → List ℕ
+cell_outputs flat = map (λ (c : FlatCell). c.output) flat.cells
+
+abbrev flop_bits : Flat → List ℕ
+flop_bits flat = map (λ (f : FlatFlop). f.output) flat.flops
+
 -- one of the drivers of a bit excludes the others
-apart : (xs ys : List ℕ) (k : ℕ) → HasNoRepeat (xs ++ ys) → Contains xs k → Contains ys k → ⊥
-apart [] ys k h i j = Contains-none k i
-apart (x ∷ xs) ys k h i j = go (Contains-cases x k xs i) (λ m. apart xs ys k h.1 m j)
-  where
-    go : (x ≡ k) ⊎ Contains xs k → (Contains xs k → ⊥) → ⊥
-    go (inl e) rest = h.0 (subst (Contains (xs ++ ys)) (sym e) (Contains-append_right xs ys k j))
-    go (inr m) rest = rest m
-
-pub flop_no_cell : (flat : Flat) → HasOneDriver flat → (f : FlatFlop) → Contains flat.flops f → IsCellBit flat f.output → ⊥
-flop_no_cell flat one f listed h =
-    let s = some_from_any (λ (c : FlatCell). c.output ≡ f.output) flat.cells h in
-    apart (input_bits flat ++ map (λ (c : FlatCell). c.output) flat.cells) (map (λ (g : FlatFlop). g.output) flat.flops) f.output one.once
-    (Contains-append_right (input_bits flat) (map (λ (c : FlatCell). c.output) flat.cells) f.output
-    (subst (Contains (map (λ (c : FlatCell). c.output) flat.cells)) s.holds (Contains-map (λ (c : FlatCell). c.output) flat.cells s.member s.listed)))
-    (Contains-map (λ (g : FlatFlop). g.output) flat.flops f listed)
-
 pub flop_no_input : (flat : Flat) → HasOneDriver flat → (f : FlatFlop) → Contains flat.flops f → IsInputBit flat f.output → ⊥
 flop_no_input flat one f listed h =
-    apart (input_bits flat ++ map (λ (c : FlatCell). c.output) flat.cells) (map (λ (g : FlatFlop). g.output) flat.flops) f.output one.once
-    (Contains-append_left (input_bits flat) (map (λ (c : FlatCell). c.output) flat.cells) f.output h)
-    (Contains-map (λ (g : FlatFlop). g.output) flat.flops f listed)
+    (apart_parts (input_bits flat ++ cell_outputs flat) (flop_bits flat) one.once).apart f.output
+    (Contains-append_left (input_bits flat) (cell_outputs flat) f.output h) (Contains-map (λ (g : FlatFlop). g.output) flat.flops f listed)
 
-without_right : (xs ys : List ℕ) → HasNoRepeat (xs ++ ys) → HasNoRepeat xs
-without_right [] ys h = tt
-without_right (x ∷ xs) ys h = (λ i. h.0 (Contains-append_left xs ys x i), without_right xs ys h.1)
-
-without_left : (xs ys : List ℕ) → HasNoRepeat (xs ++ ys) → HasNoRepeat ys
-without_left [] ys h = h
-without_left (x ∷ xs) ys h = without_left xs ys h.1
-
-pub cells_once : (flat : Flat) → HasOneDriver flat → HasNoRepeat (map (λ (c : FlatCell). c.output) flat.cells)
+pub cells_once : (flat : Flat) → HasOneDriver flat → HasNoRepeat (cell_outputs flat)
 cells_once flat one =
-    without_left (input_bits flat) (map (λ (c : FlatCell). c.output) flat.cells)
-    (without_right (input_bits flat ++ map (λ (c : FlatCell). c.output) flat.cells) (map (λ (g : FlatFlop). g.output) flat.flops) one.once)
+    (apart_parts (input_bits flat) (cell_outputs flat) (apart_parts (input_bits flat ++ cell_outputs flat) (flop_bits flat) one.once).left).right
 
-pub flops_once : (flat : Flat) → HasOneDriver flat → HasNoRepeat (map (λ (g : FlatFlop). g.output) flat.flops)
-flops_once flat one = without_left (input_bits flat ++ map (λ (c : FlatCell). c.output) flat.cells) (map (λ (g : FlatFlop). g.output) flat.flops) one.once
-
-cell_no_input : (flat : Flat) → HasOneDriver flat → (c : FlatCell) → Contains flat.cells c → IsInputBit flat c.output → ⊥
-cell_no_input flat one c listed h =
-    apart (input_bits flat) (map (λ (d : FlatCell). d.output) flat.cells) c.output
-    (without_right (input_bits flat ++ map (λ (d : FlatCell). d.output) flat.cells) (map (λ (g : FlatFlop). g.output) flat.flops) one.once)
-    h (Contains-map (λ (d : FlatCell). d.output) flat.cells c listed)
+pub flops_once : (flat : Flat) → HasOneDriver flat → HasNoRepeat (flop_bits flat)
+flops_once flat one = (apart_parts (input_bits flat ++ cell_outputs flat) (flop_bits flat) one.once).right
 
 -- a wire that is held among wires is a bit that is held
 pub record IsHeldAmong (row : List Bool) (ws : List Wire) : Type 0 where

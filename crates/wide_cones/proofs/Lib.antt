@@ -2,6 +2,7 @@ pub mod SpreadLemmas
 pub mod GateLemmas
 pub mod LeafLemmas
 pub mod ConeLemmas
+pub mod Ranges
 pub mod SecretLemmas
 pub mod CycleLemmas
 pub mod LeakLemmas

@@ -15,9 +15,10 @@ use Rattle.coco_model.proofs.Basics.{Contains-here, Contains-none, some_from_any
 use Rattle.model_laws.proofs.Ascending.{ascending_push}
 use Rattle.model_laws.proofs.Lists.{place_of_member}
 use Rattle.model_laws.proofs.Ranks.{flop_bit_or_not}
+use Rattle.model_laws.proofs.Sources.{flop_no_cell}
 use Rattle.wide_cones.specs.Ready.{IsReady}
 use Rattle.wide_cones.specs.Rows.{held, IsLeafRow, IsSpread}
-use Rattle.wide_cones.proofs.ConeLemmas.{among_held, flop_no_cell, leaf_flop, leaf_of_walk, spread_sound}
+use Rattle.wide_cones.proofs.ConeLemmas.{among_held, leaf_flop, leaf_of_walk, spread_sound}
 use Rattle.wide_cones.proofs.GateLemmas.{place_below}
 use Rattle.wide_cones.proofs.LeafLemmas.{all_false}
 

@@ -9,16 +9,11 @@ use Rattle.coco_model.proofs.Basics.{Contains-here, Contains-later}
 use Rattle.model_laws.proofs.Lists.{Contains-map, Contains-flat_map, member_of_place}
 use Rattle.wide_cones.specs.Secrets.{AreSmall}
 use Rattle.wide_cones.proofs.GateLemmas.{some_at}
-
-range-more : (a n : ℕ) → range_with_len a (suc n) ≡ range_with_len a n ++ (a + n) ∷ []
-range-more a zero = ap (λ m. m ∷ []) (omega arith)
-range-more a (suc n) = ap (λ xs. a ∷ xs) (range-more (a + 1) n ∙ ap (λ m. range_with_len (a + 1) n ++ m ∷ []) (omega arith))
+use Rattle.wide_cones.proofs.Ranges.{range_next}
 
 -- a list over the numbers below a number, with one number more
 pub map-range-more : {X : Type 0} (f : ℕ → X) (n : ℕ) → map f (range_with_len 0 (n + 1)) ≡ map f (range_with_len 0 n) ++ f n ∷ []
-map-range-more f n =
-    let s : n + 1 ≡ suc n = omega arith in
-    ap (λ m. map f (range_with_len 0 m)) s ∙ ap (map f) (range-more 0 n) ∙ map-append f (range_with_len 0 n) ((0 + n) ∷ []) ∙ ap (λ m. map f (range_with_len 0 n) ++ f m ∷ []) (zero-add n)
+map-range-more f n = ap (map f) (range_next n) ∙ map-append f (range_with_len 0 n) (n ∷ [])
 
 in_range_from : (a n k : ℕ) → k < n → Contains (range_with_len a n) (a + k)
 in_range_from a zero k h = absurd (omega arith)

@@ -1,7 +1,7 @@
 -- one bit more
 use Rattle.std.proofs.Common.{refl}
 use Rattle.std.proofs.lemmas.List.{map-append}
-use Rattle.coco_engine.proofs.Ranges.{range_next}
+use Rattle.wide_cones.proofs.Ranges.{range_next}
 use Rattle.coco_engine.proofs.labels.starts.Goals as goal
 
 pub bits-preserved : goal.bits-preserved

@@ -2,7 +2,7 @@
 use Rattle.std.proofs.lemmas.List.{flat_map_more}
 use Rattle.std.specs.List.{range_with_len}
 use Rattle.coco_engine.specs.Findings.{share_text}
-use Rattle.coco_engine.proofs.Ranges.{range_next}
+use Rattle.wide_cones.proofs.Ranges.{range_next}
 use Rattle.coco_engine.proofs.report.add_shares.Goals as goal
 
 pub shares-preserved : goal.shares-preserved
