@@ -6,62 +6,11 @@ use Rattle.std.proofs.lemmas.Bool.{true≢false, false≢true, cases_Bool, or_pa
 use Rattle.coco_base.specs.declared.cell.Kind.{Kind}
 use Rattle.coco_base.specs.declared.cell.Part.{Part}
 use Rattle.coco_base.specs.declared.cell.Part.TheVariants.{Zero, One, Vary}
-use Rattle.coco_model.specs.Cells.{xor, output_of, Allows, AllowsAll, IsForced, IsLiveInput, Subset, IsSubsetOf, signed, sign_total, chosen_parity, allowed_inputs}
+use Rattle.coco_model.specs.Cells.{xor, AllowsAll, IsForced, IsLiveInput, Subset, IsSubsetOf, signed, sign_total, chosen_parity, allowed_inputs}
+use Rattle.coco_model.proofs.LivePlaces.{IsLivePlace, behind}
 use Rattle.cell_table.specs.Sums.{sum_of}
 use Rattle.cell_table.proofs.Sums.{sum-zero, sum-one, sum-vary}
-use Rattle.cell_table.proofs.Listed.{some, some_allowed}
-
--- a live place of any function
-pub record Live (f : List Bool → Bool) (ps : List Part) (place : ℕ) : Type 0 where
-  pub varies : get_or ps place Zero ≡ Vary
-  pub inputs : List Bool
-  pub allowed : AllowsAll ps inputs
-  pub changes : f (set inputs place false) ≢ f (set inputs place true)
-
-pub live_input : (kind : Kind) (ps : List Part) (place : ℕ) → Live (output_of kind) ps place → IsLiveInput kind ps place
-live_input kind ps place l = record { varies = l.varies; inputs = l.inputs; allowed = l.allowed; changes = l.changes }
-
--- a live place behind a first place that has a value
-behind : (f : List Bool → Bool) (p : Part) (ps : List Part) (b : Bool) (place : ℕ) → Allows p b → Live (λ xs. f (b ∷ xs)) ps place → Live f (p ∷ ps) (suc place)
-behind f p ps b place a l = record { varies = l.varies; inputs = b ∷ l.inputs; allowed = (a, l.allowed); changes = l.changes }
-
-same_or_not : (a b : Bool) → (a ≡ b) ⊎ (a ≢ b)
-same_or_not true true = inl refl
-same_or_not true false = inr true≢false
-same_or_not false true = inr false≢true
-same_or_not false false = inl refl
-
--- changing a first place where it is not live
-first_change : (f : List Bool → Bool) (p : Part) (ps : List Part) (x y : Bool) (ys : List Bool) → Allows p x → Allows p y → AllowsAll ps ys
-    → (Live f (p ∷ ps) zero → x ≡ y) → f (x ∷ ys) ≡ f (y ∷ ys)
-first_change f p ps true true ys a b c k = refl
-first_change f p ps false false ys a b c k = refl
-first_change f Zero ps true false ys a b c k = absurd (true≢false a)
-first_change f One ps true false ys a b c k = absurd (false≢true b)
-first_change f Zero ps false true ys a b c k = absurd (true≢false b)
-first_change f One ps false true ys a b c k = absurd (false≢true a)
-first_change f Vary ps true false ys a b c k = go (same_or_not (f (true ∷ ys)) (f (false ∷ ys)))
-  where
-    go : (f (true ∷ ys) ≡ f (false ∷ ys)) ⊎ (f (true ∷ ys) ≢ f (false ∷ ys)) → f (true ∷ ys) ≡ f (false ∷ ys)
-    go (inl e) = e
-    go (inr n) = absurd (true≢false (k (record { varies = refl; inputs = true ∷ ys; allowed = (tt, c); changes = λ e. n (sym e) })))
-first_change f Vary ps false true ys a b c k = go (same_or_not (f (false ∷ ys)) (f (true ∷ ys)))
-  where
-    go : (f (false ∷ ys) ≡ f (true ∷ ys)) ⊎ (f (false ∷ ys) ≢ f (true ∷ ys)) → f (false ∷ ys) ≡ f (true ∷ ys)
-    go (inl e) = e
-    go (inr n) = absurd (false≢true (k (record { varies = refl; inputs = false ∷ ys; allowed = (tt, c); changes = n })))
-
--- a function depends on its live places alone
-pub live_decide : (f : List Bool → Bool) (ps : List Part) (xs ys : List Bool) → AllowsAll ps xs → AllowsAll ps ys
-    → ((place : ℕ) → Live f ps place → get_or xs place false ≡ get_or ys place false) → f xs ≡ f ys
-live_decide f [] [] [] a b k = refl
-live_decide f [] [] (y ∷ ys) a b k = absurd b
-live_decide f [] (x ∷ xs) ys a b k = absurd a
-live_decide f (p ∷ ps) [] ys a b k = absurd a
-live_decide f (p ∷ ps) (x ∷ xs) [] a b k = absurd b
-live_decide f (p ∷ ps) (x ∷ xs) (y ∷ ys) a b k =
-    live_decide (λ zs. f (x ∷ zs)) ps xs ys a.1 b.1 (λ place l. k (suc place) (behind f p ps x place a.0 l))
-    ∙ first_change f p ps x y ys a.0 b.0 b.1 (λ l. k zero l)
+use Rattle.cell_table.proofs.Listed.{some, some_allowed, xor_differ}
 
 -- what the parts allow stays allowed where a place that varies is changed
 set_allowed : (ps : List Part) (xs : List Bool) (place : ℕ) (b : Bool) → AllowsAll ps xs → get_or ps place Zero ≡ Vary → AllowsAll ps (set xs place b)
@@ -92,20 +41,14 @@ none_differs f g ss (x ∷ xs) h =
     agree false true e = absurd (true≢false e)
     agree false false e = refl
 
-xor_differ : (x y : Bool) → xor x y ≡ true → x ≢ y
-xor_differ true true h e = absurd (false≢true h)
-xor_differ true false h e = absurd (true≢false e)
-xor_differ false true h e = absurd (false≢true e)
-xor_differ false false h e = absurd (false≢true h)
-
-subset_behind : (s : Bool) (ss : Subset) (p : Part) (ps : List Part) → IsSubsetOf (s ∷ ss) (p ∷ ps) → IsSubsetOf ss ps
+pub subset_behind : (s : Bool) (ss : Subset) (p : Part) (ps : List Part) → IsSubsetOf (s ∷ ss) (p ∷ ps) → IsSubsetOf ss ps
 subset_behind s ss p ps h = let n = h.as_long in record { as_long = omega arith; varies = λ place e. h.varies (suc place) e }
 
 -- the sum at a set that has the first place is a difference, so it is not 0 only where the first place changes the function
-first_sum : (f : List Bool → Bool) (ss : Subset) (ps : List Part) → sum_of f (true ∷ ss) (Vary ∷ ps) ≢ pos 0 → Live f (Vary ∷ ps) zero
+first_sum : (f : List Bool → Bool) (ss : Subset) (ps : List Part) → sum_of f (true ∷ ss) (Vary ∷ ps) ≢ pos 0 → IsLivePlace f (Vary ∷ ps) zero
 first_sum f ss ps h = go (cases_Bool (some (λ xs. xor (f (false ∷ xs)) (f (true ∷ xs))) (allowed_inputs ps)))
   where
-    go : (some (λ xs. xor (f (false ∷ xs)) (f (true ∷ xs))) (allowed_inputs ps) ≡ true) ⊎ (some (λ xs. xor (f (false ∷ xs)) (f (true ∷ xs))) (allowed_inputs ps) ≡ false) → Live f (Vary ∷ ps) zero
+    go : (some (λ xs. xor (f (false ∷ xs)) (f (true ∷ xs))) (allowed_inputs ps) ≡ true) ⊎ (some (λ xs. xor (f (false ∷ xs)) (f (true ∷ xs))) (allowed_inputs ps) ≡ false) → IsLivePlace f (Vary ∷ ps) zero
     go (inl e) =
         let s = some_allowed (λ xs. xor (f (false ∷ xs)) (f (true ∷ xs))) ps e in
         record { varies = refl; inputs = false ∷ s.inputs; allowed = (tt, s.allowed); changes = xor_differ _ _ s.holds }
@@ -127,12 +70,12 @@ one_of_two (no n) no_side yes_side = no_side n
 
 -- a sum that is not 0 has live places alone in its set
 pub sum_lives : (f : List Bool → Bool) (ss : Subset) (ps : List Part) → IsSubsetOf ss ps → sum_of f ss ps ≢ pos 0
-    → (place : ℕ) → get_or ss place false ≡ true → Live f ps place
+    → (place : ℕ) → get_or ss place false ≡ true → IsLivePlace f ps place
 sum_lives f [] ps h n place e = absurd (false≢true e)
 sum_lives f (s ∷ ss) [] h n place e = let l = h.as_long in absurd (omega arith)
 sum_lives f (s ∷ ss) (p ∷ ps) h n zero e =
     let v : p ≡ Vary = h.varies zero e in
-    subst (λ q. Live f (q ∷ ps) zero) (sym v) (first_sum f ss ps (λ z. n (rw (v, e) z)))
+    subst (λ q. IsLivePlace f (q ∷ ps) zero) (sym v) (first_sum f ss ps (λ z. n (rw (v, e) z)))
 sum_lives f (s ∷ ss) (Zero ∷ ps) h n (suc place) e =
     behind f Zero ps false place refl (sum_lives (λ xs. f (false ∷ xs)) ss ps (subset_behind s ss Zero ps h) (λ z. n (sum-zero f s ss ps ∙ z)) place e)
 sum_lives f (s ∷ ss) (One ∷ ps) h n (suc place) e =

@@ -130,7 +130,7 @@ vary_from Zero h = absurd (false≢true h)
 vary_from One h = absurd (false≢true h)
 vary_from Vary h = refl
 
-xor_differ : (x y : Bool) → xor x y ≡ true → x ≢ y
+pub xor_differ : (x y : Bool) → xor x y ≡ true → x ≢ y
 xor_differ true true h e = absurd (false≢true h)
 xor_differ true false h e = absurd (true≢false e)
 xor_differ false true h e = absurd (false≢true e)

@@ -1,52 +1,15 @@
 -- Signed sums, place by place.
-use Rattle.std.proofs.Common.{◌≡◌, ℕ, zero, suc, ◌+◌, ◌*◌, ◌^◌, ◌<◌, ◌≤◌, Bool, true, false, ◌&&◌, List, [], ◌∷◌, ◌++◌, map, length, take, drop, get_or, set, refl, sym, ◌∙◌, ap, arith, ℤ, pos, ◌+ℤ◌, append_assoc, nat_eq, ◌%◌, ◌/◌, ◌-◌, lit≤, mul_comm, add-one, pow-suc, subst}
+use Rattle.std.proofs.Common.{◌≡◌, ℕ, zero, suc, ◌+◌, ◌*◌, ◌^◌, ◌<◌, ◌≤◌, Bool, true, false, List, [], ◌∷◌, ◌++◌, map, length, take, drop, get_or, set, refl, sym, ◌∙◌, ap, arith, ℤ, ◌+ℤ◌, append_assoc, nat_eq, ◌%◌, ◌/◌, ◌-◌, lit≤, mul_comm, add-one, pow-suc, subst}
 use Rattle.std.proofs.lemmas.Grind.{common_steps}
 use Rattle.std.proofs.lemmas.Int.{ints}
 use Rattle.coco_base.specs.declared.cell.Kind.{Kind}
 use Rattle.coco_base.specs.declared.cell.Kind.TheVariants.{Buf, Not, And, Nand, Or, Nor, Xor, Xnor, AndNot, OrNot, Mux, Nmux, Aoi3, Oai3, Aoi4, Oai4}
 use Rattle.coco_base.specs.declared.cell.Part.{Part}
 use Rattle.coco_base.specs.declared.cell.Part.TheVariants.{Zero, One, Vary}
-use Rattle.coco_model.specs.Cells.{output_of, input_count, xor, signed, subset_of_number, Subset, sign_total, chosen_parity, allowed_inputs}
+use Rattle.coco_model.specs.Cells.{output_of, input_count, xor, signed, subset_of_number, Subset, chosen_parity, allowed_inputs}
+use Rattle.coco_model.proofs.Bits.{xor-swap, and-false, and-true}
+use Rattle.coco_model.proofs.Signs.{sign_total-append, sign_total-map, sign_total-cong, sign_total-signed}
 use Rattle.cell_table.specs.Sums.{sum_of, partial_sum, joined_sum, IsWithin}
-
-pub sign_total-append : (f : List Bool → Bool) (xs ys : List (List Bool)) → sign_total f (xs ++ ys) ≡ sign_total f xs +ℤ sign_total f ys
-sign_total-append f [] ys = omega (arith, ints)
-sign_total-append f (x ∷ xs) ys = rw (sign_total-append f xs ys) (omega (arith, ints))
-
-pub sign_total-map : (f : List Bool → Bool) (g : List Bool → List Bool) (xs : List (List Bool)) → sign_total f (map g xs) ≡ sign_total (λ x. f (g x)) xs
-sign_total-map f g [] = refl
-sign_total-map f g (x ∷ xs) = rw (sign_total-map f g xs) refl
-
-pub sign_total-cong : (f g : List Bool → Bool) → ((x : List Bool) → f x ≡ g x) → (xs : List (List Bool)) → sign_total f xs ≡ sign_total g xs
-sign_total-cong f g e [] = refl
-sign_total-cong f g e (x ∷ xs) = rw (e x, sign_total-cong f g e xs) refl
-
-signed-xor : (s b : Bool) (x : ℤ) → signed (xor s b) x ≡ signed s (signed b x)
-signed-xor true true x = omega (arith, ints)
-signed-xor true false x = refl
-signed-xor false b x = refl
-
-signed-add : (s : Bool) (x y : ℤ) → signed s (x +ℤ y) ≡ signed s x +ℤ signed s y
-signed-add true x y = omega (arith, ints)
-signed-add false x y = refl
-
-pub sign_total-signed : (s : Bool) (f : List Bool → Bool) (xs : List (List Bool)) → sign_total (λ x. xor s (f x)) xs ≡ signed s (sign_total f xs)
-sign_total-signed true f [] = refl
-sign_total-signed false f [] = refl
-sign_total-signed s f (x ∷ xs) = rw (sign_total-signed s f xs, signed-xor s (f x) (pos 1), signed-add s (signed (f x) (pos 1)) (sign_total f xs)) refl
-
-xor-swap : (a b c : Bool) → xor a (xor b c) ≡ xor b (xor a c)
-xor-swap true true c = refl
-xor-swap true false c = refl
-xor-swap false b c = refl
-
-and-false : (s : Bool) → (s && false) ≡ false
-and-false true = refl
-and-false false = refl
-
-and-true : (s : Bool) → (s && true) ≡ s
-and-true true = refl
-and-true false = refl
 
 -- a first place that is 0, is 1, or varies
 pub sum-zero : (f : List Bool → Bool) (s : Bool) (ss : Subset) (ps : List Part) → sum_of f (s ∷ ss) (Zero ∷ ps) ≡ sum_of (λ xs. f (false ∷ xs)) ss ps

@@ -5,6 +5,8 @@ mod cells;
 mod dimacs;
 mod formula;
 mod solving;
+#[cfg(test)]
+mod tests;
 
 use coco_base::NoMemory;
 use formula::Formula;

@@ -32,7 +32,8 @@ impl Display for Answer {
     }
 }
 
-fn all_below(store: &Store, vars: u32) -> bool
+/// Whether all variables of the clauses are below a number.
+pub(crate) fn all_below(store: &Store, vars: u32) -> bool
     ensures { MatchBool result (All (IsOver vars) store.now) ⊤ }
 {
     'clauses: for id in 0..store.count() {

@@ -16,7 +16,9 @@ use Rattle.coco_engine.specs.declared.labels.Said.{Said}
 use Rattle.coco_engine.specs.Setups.{setup_of}
 use Rattle.coco_base.specs.declared.finding.Probe.{Probe}
 use Rattle.coco_model.specs.Reach.{AreConnected}
-use Rattle.coco_model.specs.Secure.{IsProbe, IsWidelySecure}
+use Rattle.coco_model.specs.Meaning.{HasMeaning}
+use Rattle.coco_model.specs.Secure.{IsProbe, IsSecure, IsWidelySecure}
+use Rattle.coco_model.specs.SecureInTime.{IsSecureInTime}
 use Rattle.wide_laws.specs.WideCones.{HidesSecrets}
 use Rattle.wide_cones.specs.Leaks.{IsFirstLeak}
 use Rattle.wide_cones.specs.declared.leak.Leak.{Leak}
@@ -38,11 +40,16 @@ pub record Rejects (c : Command) (flat : Flat) (setup : Setup) (text : List ℕ)
   pub reached : AreConnected flat setup.clock leak.probe.bit leaves
   pub written : text ≡ rejected_text c flat setup.table leak leaves
 
--- the report of an accepted run: each probe's structural cone lacks a share of every secret bit, and single probes
--- observe the same whatever the secrets are
+-- the report of an accepted run: each probe's structural cone lacks a share of every secret bit; runs and reaches exist;
+-- and single probes see the same whatever the secrets are: the old and new values of all leaves that they reach by
+-- structure, those of the leaves that they reach where calm bits block, and the waveforms of their bits under every
+-- order of gate events
 pub record Accepts (c : Command) (flat : Flat) (setup : Setup) (text : List ℕ) : Type 0 where
   pub hides : (p : Probe) → IsProbe flat setup c.cycles p → HidesSecrets flat setup p
+  pub meaning : HasMeaning flat setup c.cycles
   pub secure : IsWidelySecure flat setup c.cycles 1
+  pub narrow : IsSecure flat setup c.cycles 1
+  pub in_time : IsSecureInTime flat setup c.cycles 1
   pub written : text ≡ accepted_text c flat setup.table
 
 -- this text goes with this status for a netlist and a setup

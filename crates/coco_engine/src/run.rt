@@ -2,6 +2,7 @@ ghost use Rattle.std.specs.Prelude.{◌≡◌, ◌↔◌, ◌≤◌, IfOk, IfSom
 ghost use Rattle.coco_base.specs.Causes.{Rose};
 ghost use Rattle.netlist_facts.specs.Laws.{IsBuilt};
 ghost use Rattle.wide_cones.specs.Ready.{IsReady};
+ghost use Rattle.wide_laws.specs.Laws.{HasNoControls};
 ghost use Rattle.coco_engine.specs.Answers.{Answers, FlatAnswers, Leaves, MayWrite, SetupAnswers, StopAnswers};
 ghost use Rattle.coco_engine.specs.Refusals.{file_limit, refusal_line};
 ghost use Rattle.coco_engine.specs.Requests.{shown_command};
@@ -20,7 +21,7 @@ use netlist_facts::built_law;
 use netlist_json::{NetFault, read_netlist};
 use std::alloc::Global;
 use wide_cones::{first_leak, reached_leaves};
-use wide_laws::hidden_shares_law;
+use wide_laws::hidden_in_time_law;
 
 /// What a call writes, and the status that goes with it.
 #[derive(Debug, Drop)]
@@ -49,11 +50,12 @@ fn not_built(alloc: Global, name: &str) -> Result<Reply, NoMemory>
 
 // the verdict on a netlist with a setup
 fn verdict(alloc: Global, request: &Request, flat: &Flat, setup: &Setup) -> Result<Reply, NoMemory>
-    requires { IsReady flat.now setup.now }
+    requires ready { IsReady flat.now setup.now }
+    requires free { HasNoControls flat.now setup.now }
     ensures { IfOk result (λ r. SetupAnswers (shown_command request.now) flat.now setup.now r.status r.text.items) }
 {
     let Some(leak) = first_leak(alloc, flat, setup, request.cycles)? else {
-        hidden_shares_law();
+        hidden_in_time_law();
         return Ok(Reply {
             status: Status::Accepted,
             text: report::accepted(alloc, request, flat, &setup.table)?,

@@ -1,5 +1,5 @@
 -- The small circuits: what is known, what is calm and what is reached there.
-use Rattle.std.proofs.Common.{◌≡◌, ◌≢◌, ℕ, zero, suc, ◌<◌, ◌⊎◌, inl, inr, Bool, true, false, List, [], ◌∷◌, get_or, set, refl, sym, ◌∙◌, ap, subst, arith}
+use Rattle.std.proofs.Common.{◌≡◌, ◌≢◌, ℕ, zero, suc, ◌<◌, ◌⊎◌, inl, inr, Bool, true, false, cond, List, [], ◌∷◌, get_or, set, refl, sym, ◌∙◌, ap, subst, arith}
 use Rattle.std.specs.Prelude.{Contains, ◌↔◌}
 use Rattle.coco_base.specs.declared.text.Text.{Text}
 use Rattle.coco_base.specs.declared.cell.Kind.TheVariants.{Mux}
@@ -11,7 +11,7 @@ use Rattle.coco_base.specs.declared.setup.Start.TheVariants.{Public}
 use Rattle.coco_base.specs.declared.netlist.Wire.TheVariants.{Const, Bit}
 use Rattle.coco_model.specs.Cells.{AllowsAll, IsForced, IsLiveInput, output_of}
 use Rattle.coco_model.specs.Netlist.{wires_of, IsCellBit}
-use Rattle.coco_model.specs.Known.{Row, parts}
+use Rattle.coco_model.specs.Known.{Row, part_of, parts}
 use Rattle.coco_model.specs.Carried.{start_state, entry_of}
 use Rattle.coco_model.specs.Run.{before}
 use Rattle.coco_model.specs.Calm.{both}
@@ -34,47 +34,36 @@ mux_varies Zero Vary f = refl
 mux_varies One Vary f = refl
 mux_varies Vary Vary f = refl
 
--- with a known select, only the chosen input of a multiplexer is live
-mux_zero_live : (place : ℕ) → IsLiveInput Mux (Vary ∷ Vary ∷ Zero ∷ []) place → place ≡ 0
-mux_zero_live zero live = refl
-mux_zero_live (suc zero) live = absurd (go live.inputs live.allowed live.changes)
-  where
-    go : (inputs : List Bool) → AllowsAll (Vary ∷ Vary ∷ Zero ∷ []) inputs
-        → output_of Mux (set inputs 1 false) ≢ output_of Mux (set inputs 1 true) → ⊥
-    go (a ∷ b ∷ true ∷ []) allowed changes = let e = allowed.1.1.0 in cc
-    go (a ∷ b ∷ false ∷ []) allowed changes = changes refl
-    go [] allowed changes = allowed
-    go (a ∷ []) allowed changes = allowed.1
-    go (a ∷ b ∷ []) allowed changes = allowed.1.1
-    go (a ∷ b ∷ s ∷ x ∷ xs) allowed changes = allowed.1.1.1
-mux_zero_live (suc (suc zero)) live = absurd (let e = live.varies in cc)
-mux_zero_live (suc (suc (suc place))) live = absurd (let e = live.varies in cc)
+-- with a known select, the input of a multiplexer that it does not choose changes nothing
+unchosen-same : (select : Bool) (inputs : List Bool) → AllowsAll (Vary ∷ Vary ∷ part_of select ∷ []) inputs
+    → output_of Mux (set inputs (cond select 0 1) false) ≡ output_of Mux (set inputs (cond select 0 1) true)
+unchosen-same false (a ∷ b ∷ false ∷ []) allowed = refl
+unchosen-same true (a ∷ b ∷ true ∷ []) allowed = refl
+unchosen-same false (a ∷ b ∷ true ∷ []) allowed = absurd (let e = allowed.1.1.0 in cc)
+unchosen-same true (a ∷ b ∷ false ∷ []) allowed = absurd (let e = allowed.1.1.0 in cc)
+unchosen-same select [] allowed = absurd allowed
+unchosen-same select (a ∷ []) allowed = absurd allowed.1
+unchosen-same select (a ∷ b ∷ []) allowed = absurd allowed.1.1
+unchosen-same select (a ∷ b ∷ s ∷ x ∷ xs) allowed = absurd allowed.1.1.1
 
-mux_one_live : (place : ℕ) → IsLiveInput Mux (Vary ∷ Vary ∷ One ∷ []) place → place ≡ 1
-mux_one_live (suc zero) live = refl
-mux_one_live zero live = absurd (go live.inputs live.allowed live.changes)
-  where
-    go : (inputs : List Bool) → AllowsAll (Vary ∷ Vary ∷ One ∷ []) inputs
-        → output_of Mux (set inputs 0 false) ≢ output_of Mux (set inputs 0 true) → ⊥
-    go (a ∷ b ∷ false ∷ []) allowed changes = let e = allowed.1.1.0 in cc
-    go (a ∷ b ∷ true ∷ []) allowed changes = changes refl
-    go [] allowed changes = allowed
-    go (a ∷ []) allowed changes = allowed.1
-    go (a ∷ b ∷ []) allowed changes = allowed.1.1
-    go (a ∷ b ∷ s ∷ x ∷ xs) allowed changes = allowed.1.1.1
-mux_one_live (suc (suc zero)) live = absurd (let e = live.varies in cc)
-mux_one_live (suc (suc (suc place))) live = absurd (let e = live.varies in cc)
+-- so only the chosen one is live
+chosen_alone : (select : Bool) (place : ℕ) → IsLiveInput Mux (Vary ∷ Vary ∷ part_of select ∷ []) place → place ≡ cond select 1 0
+chosen_alone false zero live = refl
+chosen_alone true (suc zero) live = refl
+chosen_alone false (suc zero) live = absurd (live.changes (unchosen-same false live.inputs live.allowed))
+chosen_alone true zero live = absurd (live.changes (unchosen-same true live.inputs live.allowed))
+chosen_alone false (suc (suc zero)) live = absurd (let e = live.varies in cc)
+chosen_alone true (suc (suc zero)) live = absurd (let e = live.varies in cc)
+chosen_alone select (suc (suc (suc place))) live = absurd (let e = live.varies in cc)
 
-first_live : IsLiveInput Mux (Vary ∷ Vary ∷ Zero ∷ []) 0
-first_live = record {
+chosen_live : (select : Bool) → IsLiveInput Mux (Vary ∷ Vary ∷ part_of select ∷ []) (cond select 1 0)
+chosen_live false = record {
   varies = refl;
   inputs = false ∷ false ∷ false ∷ [];
   allowed = (tt, (tt, (refl, tt)));
   changes = λ e. cc;
 }
-
-second_live : IsLiveInput Mux (Vary ∷ Vary ∷ One ∷ []) 1
-second_live = record {
+chosen_live true = record {
   varies = refl;
   inputs = false ∷ false ∷ true ∷ [];
   allowed = (tt, (tt, (refl, tt)));
@@ -176,39 +165,36 @@ from_place name select calm s place leaf below live source varies =
     wired (suc (suc zero)) below e = ap Bit e
     wired (suc (suc (suc place))) below e = absurd (omega arith)
 
-pub reached_first : (name : Text) (calm : Row) → IsSelecting Zero calm → (leaf : ℕ)
+-- with one live place, its source alone is reached
+reached_one : (name : Text) (select : Part) (calm : Row) → IsSelecting select calm → (place only leaf : ℕ) → place < 3
+    → get_or (2 ∷ 3 ∷ 1 ∷ []) place 4 ≡ only → calm only ≡ Vary
+    → IsLiveInput Mux (Vary ∷ Vary ∷ select ∷ []) place
+    → ((other : ℕ) → IsLiveInput Mux (Vary ∷ Vary ∷ select ∷ []) other → other ≡ place)
+    → Reaches (selected_shares name) calm leaf 4 ↔ Contains (only ∷ []) leaf
+reached_one name select calm s place only leaf below source varies live alone = (to, from)
+  where
+    to : Reaches (selected_shares name) calm leaf 4 → Contains (only ∷ []) leaf
+    to walk = let t = through_place name select calm s leaf walk in
+        subst (Contains (only ∷ [])) (sym source ∙ subst (λ p. get_or (2 ∷ 3 ∷ 1 ∷ []) p 4 ≡ leaf) (alone t.place t.live) t.source)
+        (Contains-here only [])
+
+    from : Contains (only ∷ []) leaf → Reaches (selected_shares name) calm leaf 4
+    from h = go (Contains-cases only leaf [] h)
+      where
+        go : (only ≡ leaf) ⊎ Contains [] leaf → Reaches (selected_shares name) calm leaf 4
+        go (inl e) =
+            subst (λ l. Reaches (selected_shares name) calm l 4) e (from_place name select calm s place only below live source varies)
+        go (inr none) = absurd (Contains-none leaf none)
+
+reached_first : (name : Text) (calm : Row) → IsSelecting Zero calm → (leaf : ℕ)
     → Reaches (selected_shares name) calm leaf 4 ↔ Contains (2 ∷ []) leaf
-reached_first name calm s leaf = (to, from)
-  where
-    to : Reaches (selected_shares name) calm leaf 4 → Contains (2 ∷ []) leaf
-    to walk = let t = through_place name Zero calm s leaf walk in
-        subst (Contains (2 ∷ [])) (subst (λ place. get_or (2 ∷ 3 ∷ 1 ∷ []) place 4 ≡ leaf) (mux_zero_live t.place t.live) t.source)
-        (Contains-here 2 [])
+reached_first name calm s leaf =
+    reached_one name Zero calm s 0 2 leaf (omega arith) refl s.first (chosen_live false) (chosen_alone false)
 
-    from : Contains (2 ∷ []) leaf → Reaches (selected_shares name) calm leaf 4
-    from h = go (Contains-cases 2 leaf [] h)
-      where
-        go : (2 ≡ leaf) ⊎ Contains [] leaf → Reaches (selected_shares name) calm leaf 4
-        go (inl e) =
-            subst (λ l. Reaches (selected_shares name) calm l 4) e (from_place name Zero calm s 0 2 (omega arith) first_live refl s.first)
-        go (inr none) = absurd (Contains-none leaf none)
-
-pub reached_second : (name : Text) (calm : Row) → IsSelecting One calm → (leaf : ℕ)
+reached_second : (name : Text) (calm : Row) → IsSelecting One calm → (leaf : ℕ)
     → Reaches (selected_shares name) calm leaf 4 ↔ Contains (3 ∷ []) leaf
-reached_second name calm s leaf = (to, from)
-  where
-    to : Reaches (selected_shares name) calm leaf 4 → Contains (3 ∷ []) leaf
-    to walk = let t = through_place name One calm s leaf walk in
-        subst (Contains (3 ∷ [])) (subst (λ place. get_or (2 ∷ 3 ∷ 1 ∷ []) place 4 ≡ leaf) (mux_one_live t.place t.live) t.source)
-        (Contains-here 3 [])
-
-    from : Contains (3 ∷ []) leaf → Reaches (selected_shares name) calm leaf 4
-    from h = go (Contains-cases 3 leaf [] h)
-      where
-        go : (3 ≡ leaf) ⊎ Contains [] leaf → Reaches (selected_shares name) calm leaf 4
-        go (inl e) =
-            subst (λ l. Reaches (selected_shares name) calm l 4) e (from_place name One calm s 1 3 (omega arith) second_live refl s.second)
-        go (inr none) = absurd (Contains-none leaf none)
+reached_second name calm s leaf =
+    reached_one name One calm s 1 3 leaf (omega arith) refl s.second (chosen_live true) (chosen_alone true)
 
 pub reached_all : (name : Text) (calm : Row) → IsSelecting Vary calm → (leaf : ℕ)
     → Reaches (selected_shares name) calm leaf 4 ↔ Contains (1 ∷ 2 ∷ 3 ∷ []) leaf

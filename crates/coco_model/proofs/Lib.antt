@@ -1,6 +1,11 @@
 pub mod Basics
 pub mod Walks
 pub mod Keepers
+pub mod Bits
+pub mod Signs
+pub mod Choices
+pub mod ListedLabels
+pub mod LivePlaces
 mod Circuits
 mod Pulses
 mod Unshared

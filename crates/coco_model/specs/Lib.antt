@@ -12,6 +12,7 @@ pub mod Secure
 pub mod Events
 pub mod SecureInTime
 pub mod Roots
+pub mod Meaning
 pub mod Findings
 pub mod Nodes
 pub mod WrittenFindings

@@ -1,7 +1,7 @@
 -- Lists without repeats, and look-ups in them.
-use Rattle.std.proofs.Common.{◌≡◌, ◌≢◌, ℕ, ◌⊎◌, inl, inr, true, false, cond, nat_eq, List, [], ◌∷◌, ◌++◌, map, refl, sym, ◌∙◌, ap, subst}
+use Rattle.std.proofs.Common.{◌≡◌, ℕ, ◌⊎◌, inl, inr, cond, nat_eq, List, [], ◌∷◌, ◌++◌, map, refl, sym, ◌∙◌, ap, subst}
 use Rattle.std.specs.Prelude.{Contains, flat_map}
-use Rattle.std.proofs.lemmas.Bool.{cases_Bool, eqb-true, eq-eqb}
+use Rattle.std.proofs.lemmas.Bool.{ne_eqb, eq-eqb}
 use Rattle.std.proofs.lemmas.List.Elements.{Contains-append_cases, Contains-append_left, Contains-append_right}
 use Rattle.coco_model.specs.Netlist.{HasNoRepeat}
 use Rattle.coco_model.proofs.Basics.{Contains-here, Contains-later, Contains-cases, Contains-none}
@@ -75,13 +75,6 @@ Contains-bits_of (d ∷ es) e h = go (Contains-cases d e es h) (λ i. Contains-b
     go (inl is) rest = subst (λ x. Contains (d.bit ∷ bits_of es) x.bit) is (Contains-here d.bit (bits_of es))
     go (inr i) rest = Contains-later d.bit e.bit (bits_of es) (rest i)
 
-pub eq_test : (a b : ℕ) → a ≢ b → nat_eq a b ≡ false
-eq_test a b apart = go (cases_Bool (nat_eq a b))
-  where
-    go : (nat_eq a b ≡ true) ⊎ (nat_eq a b ≡ false) → nat_eq a b ≡ false
-    go (inl e) = absurd (apart (eqb-true a b e))
-    go (inr e) = e
-
 -- a bit that is listed once has its state
 pub look-listed : {X : Type 0} (other : X) (es : List (Entry X)) → HasNoRepeat (bits_of es) → (e : Entry X) → Contains es e
     → look other es e.bit ≡ e.state
@@ -92,12 +85,12 @@ look-listed other (d ∷ es) once e h = go (Contains-cases d e es h) (λ i. look
     go (inl is) rest = ap (λ t. cond t d.state (look other es e.bit)) (eq-eqb d.bit e.bit (ap (λ x. x.bit) is)) ∙ ap (λ x. x.state) is
     go (inr i) rest =
         ap (λ t. cond t d.state (look other es e.bit))
-        (eq_test d.bit e.bit (λ same. once.0 (subst (Contains (bits_of es)) (sym same) (Contains-bits_of es e i)))) ∙ rest i
+        (ne_eqb d.bit e.bit (λ same. once.0 (subst (Contains (bits_of es)) (sym same) (Contains-bits_of es e i)))) ∙ rest i
 
 -- a bit that is not listed has the other state
 pub look-none : {X : Type 0} (other : X) (es : List (Entry X)) (b : ℕ) → (Contains (bits_of es) b → ⊥) → look other es b ≡ other
 look-none other [] b none = refl
 look-none other (e ∷ es) b none =
     ap (λ t. cond t e.state (look other es b))
-    (eq_test e.bit b (λ same. none (subst (Contains (e.bit ∷ bits_of es)) same (Contains-here e.bit (bits_of es)))))
+    (ne_eqb e.bit b (λ same. none (subst (Contains (e.bit ∷ bits_of es)) same (Contains-here e.bit (bits_of es)))))
     ∙ look-none other es b (λ i. none (Contains-later e.bit b (bits_of es) i))

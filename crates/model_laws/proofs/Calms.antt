@@ -1,5 +1,5 @@
 -- Calm bits keep still, and bits whose reached leaves agree show one waveform, under every schedule of gate events.
-use Rattle.std.proofs.Common.{◌≡◌, ◌≢◌, ℕ, zero, suc, ◌<◌, ◌⊎◌, inl, inr, Bool, true, false, cond, nat_eq, List, [], ◌∷◌, map, get_or, set, refl, sym, ◌∙◌, ap, subst}
+use Rattle.std.proofs.Common.{◌≡◌, ◌≢◌, ℕ, zero, suc, ◌<◌, ◌⊎◌, inl, inr, Bool, true, false, cond, nat_eq, List, [], ◌∷◌, map, get_or, refl, sym, ◌∙◌, ap, subst}
 use Rattle.std.specs.Prelude.{Contains, slice_get, Option, Some, None}
 use Rattle.std.proofs.Math.ListN.{get_or-map}
 use Rattle.std.proofs.lemmas.Bool.{cases_Bool, eqb-true}
@@ -10,7 +10,7 @@ use Rattle.coco_base.specs.declared.netlist.FlatCell.{FlatCell}
 use Rattle.coco_base.specs.declared.setup.Setup.{Setup}
 use Rattle.coco_base.specs.declared.netlist.Wire.{Wire}
 use Rattle.coco_base.specs.declared.netlist.Wire.TheVariants.{Const, Bit}
-use Rattle.coco_model.specs.Cells.{output_of, Allows, AllowsAll}
+use Rattle.coco_model.specs.Cells.{output_of, Allows}
 use Rattle.coco_model.specs.Netlist.{Valuation, wires_of, wire_value, cell_value, IsSettled, IsRanked, IsCellBit}
 use Rattle.coco_model.specs.Labels.{Choice}
 use Rattle.coco_model.specs.Run.{Memory, IsRun, before}
@@ -22,33 +22,24 @@ use Rattle.coco_model.specs.Events.{Event, put, put_cell, after_event, waveform}
 use Rattle.coco_model.specs.Events.Event.{leaf, cell}
 use Rattle.coco_model.proofs.Keepers.{before_below}
 use Rattle.coco_model.proofs.Basics.{Contains-here, Contains-later, Contains-cases, Contains-none}
+use Rattle.coco_model.proofs.LivePlaces.{IsLivePlace, live_input, live_decide}
 use Rattle.model_laws.proofs.Lists.{member_of_place}
 use Rattle.model_laws.proofs.Ranks.{by_rank}
 use Rattle.model_laws.proofs.Forced.{forced-allows, wires-allow, row-allows}
 use Rattle.model_laws.proofs.Knowing.{known_run}
 use Rattle.model_laws.specs.Laws.{IsChecked, CalmLaw, WaveformLaw}
 
-both-allows_old : (p q : Part) (b : Bool) → Allows p b → Allows (both p q) b
-both-allows_old Zero Zero b h = h
-both-allows_old Zero One b h = tt
-both-allows_old Zero Vary b h = tt
-both-allows_old One Zero b h = tt
-both-allows_old One One b h = h
-both-allows_old One Vary b h = tt
-both-allows_old Vary Zero b h = tt
-both-allows_old Vary One b h = tt
-both-allows_old Vary Vary b h = tt
-
-both-allows_new : (p q : Part) (b : Bool) → Allows q b → Allows (both p q) b
-both-allows_new Zero Zero b h = h
-both-allows_new Zero One b h = tt
-both-allows_new Zero Vary b h = tt
-both-allows_new One Zero b h = tt
-both-allows_new One One b h = h
-both-allows_new One Vary b h = tt
-both-allows_new Vary Zero b h = tt
-both-allows_new Vary One b h = tt
-both-allows_new Vary Vary b h = tt
+-- what one of two cycles allows is allowed by what is known in both
+both-allows : (p q : Part) (b : Bool) → Allows p b ⊎ Allows q b → Allows (both p q) b
+both-allows Zero Zero b (inl h) = h
+both-allows Zero Zero b (inr h) = h
+both-allows One One b (inl h) = h
+both-allows One One b (inr h) = h
+both-allows Zero One b h = tt
+both-allows Zero Vary b h = tt
+both-allows One Zero b h = tt
+both-allows One Vary b h = tt
+both-allows Vary q b h = tt
 
 -- what holds of a valuation, and of the value put at a bit, holds afterwards
 pub put-holds : (P : ℕ → Bool → Type 0) (v : Valuation) (bit : ℕ) (x : Bool) → P bit x → ((b : ℕ) → P b (v b)) → (b : ℕ)
@@ -116,11 +107,11 @@ calm_cycle flat setup cycles rank row word checked choice v m run t below calm s
   new_settled = run.settled t below;
   old_allowed = record {
     each = row-allows flat rank calm (v (before t)) checked.ranked still.forced (run.settled (before t) earlier)
-        (λ b none. subst (λ p. Allows p (v (before t) b)) (sym (still.leaves b none)) (both-allows_old (row (before t) b) (row t b) (v (before t) b) (known_old b)));
+        (λ b none. subst (λ p. Allows p (v (before t) b)) (sym (still.leaves b none)) (both-allows (row (before t) b) (row t b) (v (before t) b) (inl (known_old b))));
   };
   new_allowed = record {
     each = row-allows flat rank calm (v t) checked.ranked still.forced (run.settled t below)
-        (λ b none. subst (λ p. Allows p (v t b)) (sym (still.leaves b none)) (both-allows_new (row (before t) b) (row t b) (v t b) (known_new b)));
+        (λ b none. subst (λ p. Allows p (v t b)) (sym (still.leaves b none)) (both-allows (row (before t) b) (row t b) (v t b) (inr (known_new b))));
   };
 }
   where
@@ -138,57 +129,6 @@ unfolding CalmLaw
 calm_law flat setup cycles rank row word checked choice v m run t below calm still events b x h =
     let a = calm_cycle flat setup cycles rank row word checked choice v m run t below calm still in
     waveform-calm flat (row (before t)) (row t) calm still (v t) (v (before t)) a.new_allowed a.old_allowed events b x h
-
--- an input of any function is live: it varies, and the function changes with it
-pub record IsLiveOf (f : List Bool → Bool) (ps : List Part) (place : ℕ) : Type 0 where
-  pub varies : get_or ps place Zero ≡ Vary
-  pub inputs : List Bool
-  pub allowed : AllowsAll ps inputs
-  pub changes : f (set inputs place false) ≢ f (set inputs place true)
-
--- a part that allows both values varies
-allows_both : (p : Part) → Allows p false → Allows p true → p ≡ Vary
-allows_both Zero a b = absurd cc
-allows_both One a b = absurd cc
-allows_both Vary a b = refl
-
-pub Bool_same : (a b : Bool) → (a ≡ b) ⊎ (a ≢ b)
-Bool_same true true = inl refl
-Bool_same false false = inl refl
-Bool_same true false = inr (λ e. cc)
-Bool_same false true = inr (λ e. cc)
-
--- a function has one value on two lists of inputs that agree where it is live
-pub same_output : (f : List Bool → Bool) (ps : List Part) (xs ys : List Bool) → AllowsAll ps xs → AllowsAll ps ys
-    → ((place : ℕ) → IsLiveOf f ps place → get_or xs place false ≡ get_or ys place false) → f xs ≡ f ys
-same_output f [] [] [] a b same = refl
-same_output f [] (x ∷ xs) ys a b same = absurd a
-same_output f [] [] (y ∷ ys) a b same = absurd b
-same_output f (p ∷ ps) [] ys a b same = absurd a
-same_output f (p ∷ ps) (x ∷ xs) [] a b same = absurd b
-same_output f (p ∷ ps) (x ∷ xs) (y ∷ ys) a b same =
-    head x y a.0 b.0 (same 0)
-    ∙ same_output (λ zs. f (y ∷ zs)) ps xs ys a.1 b.1
-    (λ place live. same (suc place) (record { varies = live.varies; inputs = y ∷ live.inputs; allowed = (b.0, live.allowed); changes = live.changes }))
-  where
-    live_first : Allows p false → Allows p true → f (false ∷ xs) ≢ f (true ∷ xs) → IsLiveOf f (p ∷ ps) 0
-    live_first low high changes = record { varies = allows_both p low high; inputs = false ∷ xs; allowed = (low, a.1); changes = changes }
-
-    rising : Allows p false → Allows p true → (IsLiveOf f (p ∷ ps) 0 → false ≡ true)
-        → (f (false ∷ xs) ≡ f (true ∷ xs)) ⊎ (f (false ∷ xs) ≢ f (true ∷ xs)) → f (false ∷ xs) ≡ f (true ∷ xs)
-    rising low high agree (inl e) = e
-    rising low high agree (inr n) = absurd (let e = agree (live_first low high n) in cc)
-
-    falling : Allows p false → Allows p true → (IsLiveOf f (p ∷ ps) 0 → true ≡ false)
-        → (f (false ∷ xs) ≡ f (true ∷ xs)) ⊎ (f (false ∷ xs) ≢ f (true ∷ xs)) → f (true ∷ xs) ≡ f (false ∷ xs)
-    falling low high agree (inl e) = sym e
-    falling low high agree (inr n) = absurd (let e = agree (live_first low high n) in cc)
-
-    head : (x y : Bool) → Allows p x → Allows p y → (IsLiveOf f (p ∷ ps) 0 → x ≡ y) → f (x ∷ xs) ≡ f (y ∷ xs)
-    head true true first second agree = refl
-    head false false first second agree = refl
-    head false true low high agree = rising low high agree (Bool_same (f (false ∷ xs)) (f (true ∷ xs)))
-    head true false high low agree = falling low high agree (Bool_same (f (false ∷ xs)) (f (true ∷ xs)))
 
 -- two values that a known part allows are one
 pub allowed_once : (p : Part) (x y : Bool) → p ≢ Vary → Allows p x → Allows p y → x ≡ y
@@ -228,10 +168,10 @@ same_cell flat old now calm still good v w allows_v allows_w c listed reaches sa
     go (inr known) =
         allowed_once (calm c.output) _ _ known (cell-allows flat old now calm still v allows_v c listed)
         (cell-allows flat old now calm still w allows_w c listed)
-    go (inl varies) = same_output (output_of c.kind) (cell_parts calm c) (map (wire_value v) (wires_of c)) (map (wire_value w) (wires_of c))
+    go (inl varies) = live_decide (output_of c.kind) (cell_parts calm c) (map (wire_value v) (wires_of c)) (map (wire_value w) (wires_of c))
         (wires-allow calm v (wires_of c) (λ b h. allows_v.each b)) (wires-allow calm w (wires_of c) (λ b h. allows_w.each b)) at_place
       where
-        at_place : (place : ℕ) → IsLiveOf (output_of c.kind) (cell_parts calm c) place
+        at_place : (place : ℕ) → IsLivePlace (output_of c.kind) (cell_parts calm c) place
             → get_or (map (wire_value v) (wires_of c)) place false ≡ get_or (map (wire_value w) (wires_of c)) place false
         at_place place live =
             let part : wire_part calm (get_or (wires_of c) place (Const false)) ≡ Vary =
@@ -240,11 +180,11 @@ same_cell flat old now calm still good v w allows_v allows_w c listed reaches sa
             get_or-map (wire_value v) (wires_of c) place (Const false) ∙ ap (wire_value v) bit.1 ∙ here bit.0 bit.1 live
             ∙ sym (ap (wire_value w) bit.1) ∙ sym (get_or-map (wire_value w) (wires_of c) place (Const false))
           where
-            here : (n : ℕ) → get_or (wires_of c) place (Const false) ≡ Bit n → IsLiveOf (output_of c.kind) (cell_parts calm c) place
+            here : (n : ℕ) → get_or (wires_of c) place (Const false) ≡ Bit n → IsLivePlace (output_of c.kind) (cell_parts calm c) place
                 → v n ≡ w n
             here n is live =
                 same n (member_at (wires_of c) place n is) (λ leaf walk. reaches leaf (through c.output c place n listed refl varies
-                (record { varies = live.varies; inputs = live.inputs; allowed = live.allowed; changes = live.changes }) is walk))
+                (live_input c.kind (cell_parts calm c) place live) is walk))
 
 -- two worlds that a row allows, which agree on the bits whose leaves are good
 pub record AreAlike (calm : Row) (agreed : ℕ → Type 0) (v w : Valuation) : Type 0 where

@@ -9,6 +9,7 @@ pub mod Unique
 pub mod Rooted
 pub mod Ascending
 pub mod Reached
+pub mod Narrow
 pub mod Ends
 pub mod Lives
 pub mod Connected

@@ -16,12 +16,13 @@ use Rattle.coco_model.specs.Netlist.{wires_of, IsRanked, IsInRange, IsCellBit}
 use Rattle.coco_model.specs.Known.{Row, cell_parts}
 use Rattle.coco_model.specs.Reach.{IsLive, Reaches, IsReachedRow}
 use Rattle.coco_model.specs.Reach.Reaches.{here, through}
+use Rattle.coco_model.proofs.Bits.{same_or_not}
 use Rattle.coco_model.proofs.Basics.{Contains-here, Contains-cases, Contains-none, IsSome}
 use Rattle.coco_model.proofs.Walks.{IsAtLeaf, IsStep, walk_cases}
 use Rattle.model_laws.proofs.Lists.{Contains-map, IsImage, image_of_map, some_or_none, some_member_or_none}
 use Rattle.model_laws.proofs.Ranks.{cell_bit_or_not}
 use Rattle.model_laws.proofs.Ascending.{HasList, list_of}
-use Rattle.model_laws.proofs.Calms.{Bool_same, vary_or_not, member_at}
+use Rattle.model_laws.proofs.Calms.{vary_or_not, member_at}
 
 -- the allowed inputs are listed
 allowed_listed : (ps : List Part) (xs : List Bool) → AllowsAll ps xs → Contains (allowed_inputs ps) xs
@@ -75,7 +76,7 @@ not_or (inr n) = inl n
 
 live_or_not : (kind : Kind) (ps : List Part) (place : ℕ) → IsLiveInput kind ps place ⊎ (IsLiveInput kind ps place → ⊥)
 live_or_not kind ps place = go (vary_or_not (get_or ps place Zero))
-    (some_or_none (λ xs. output_of kind (set xs place false) ≢ output_of kind (set xs place true)) (λ xs. not_or (Bool_same (output_of kind (set xs place false)) (output_of kind (set xs place true)))) (allowed_inputs ps))
+    (some_or_none (λ xs. output_of kind (set xs place false) ≢ output_of kind (set xs place true)) (λ xs. not_or (same_or_not (output_of kind (set xs place false)) (output_of kind (set xs place true)))) (allowed_inputs ps))
   where
     go : (get_or ps place Zero ≡ Vary) ⊎ (get_or ps place Zero ≢ Vary)
         → IsSome (λ xs. output_of kind (set xs place false) ≢ output_of kind (set xs place true)) (allowed_inputs ps)
@@ -93,7 +94,7 @@ pub record HasForced (kind : Kind) (ps : List Part) : Type 0 where
 
 forces_or_not : (kind : Kind) (ps : List Part) (c : Bool) → Forces kind ps c ⊎ (Forces kind ps c → ⊥)
 forces_or_not kind ps c =
-    go (some_or_none (λ xs. output_of kind xs ≢ c) (λ xs. not_or (Bool_same (output_of kind xs) c)) (allowed_inputs ps))
+    go (some_or_none (λ xs. output_of kind xs ≢ c) (λ xs. not_or (same_or_not (output_of kind xs) c)) (allowed_inputs ps))
   where
     settle : (xs : List Bool) → ((output_of kind xs ≢ c) → ⊥) → (output_of kind xs ≡ c) ⊎ (output_of kind xs ≢ c) → output_of kind xs ≡ c
     settle xs none (inl e) = e
@@ -102,7 +103,7 @@ forces_or_not kind ps c =
     go : IsSome (λ xs. output_of kind xs ≢ c) (allowed_inputs ps)
         ⊎ ((xs : List Bool) → Contains (allowed_inputs ps) xs → output_of kind xs ≢ c → ⊥) → Forces kind ps c ⊎ (Forces kind ps c → ⊥)
     go (inl s) = inr (λ forces. s.holds (forces s.member (listed_allowed ps s.member s.listed)))
-    go (inr none) = inl (λ xs allowed. settle xs (none xs (allowed_listed ps xs allowed)) (Bool_same (output_of kind xs) c))
+    go (inr none) = inl (λ xs allowed. settle xs (none xs (allowed_listed ps xs allowed)) (same_or_not (output_of kind xs) c))
 
 pub forced_exists : (kind : Kind) (ps : List Part) → HasForced kind ps
 forced_exists kind ps = go (forces_or_not kind ps false) (forces_or_not kind ps true)
@@ -232,7 +233,7 @@ reaches_or_not flat rank calm leaf ranked = by_measure rank (λ b. Reaches flat 
             inl (through b s.member t.number t.holds.from s.listed s.holds.drives varies t.holds.live t.holds.wired t.holds.rest)
 
 -- a reached leaf is a bit of the netlist
-reached_below : (flat : Flat) (calm : Row) (leaf b : ℕ) → IsInRange flat → Reaches flat calm leaf b → b < flat.bits → leaf < flat.bits
+pub reached_below : (flat : Flat) (calm : Row) (leaf b : ℕ) → IsInRange flat → Reaches flat calm leaf b → b < flat.bits → leaf < flat.bits
 reached_below flat calm leaf b range (here none varies) inside = inside
 reached_below flat calm leaf b range (through bit c place from listed drives varies live wired rest) inside =
     reached_below flat calm leaf from range rest (range.inputs c listed (Bit from) (member_at (wires_of c) place from wired))

@@ -15,7 +15,7 @@ use Rattle.model_laws.proofs.Reached.{one_reach_law, one_wide_reach_law}
 use Rattle.model_laws.specs.Laws.{OneReachLaw, OneWideReachLaw, SecureLaw, WidelySecureLaw}
 
 -- what a probe shows of the leaves that it reaches
-abbrev shown : (ℕ → Valuation) → ℕ → List ℕ → List Bool
+abbrev pub shown : (ℕ → Valuation) → ℕ → List ℕ → List Bool
 shown v t leaves = flat_map (λ l. v (before t) l ∷ v t l ∷ []) leaves
 
 observation-same : (reach other : Reach) (v : ℕ → Valuation) (probes : List Probe)

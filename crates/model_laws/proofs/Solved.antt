@@ -1,7 +1,7 @@
 -- States of all bits for given leaves: each cell computes its output from the wires that it reads.
 use Rattle.std.proofs.Common.{◌≡◌, ℕ, zero, suc, ◌<◌, ◌⊎◌, inl, inr, true, false, cond, nat_eq, List, [], ◌∷◌, ◌++◌, map, refl, sym, ◌∙◌, ap, subst, arith}
 use Rattle.std.specs.Prelude.{Contains, Option, Some, None}
-use Rattle.std.proofs.lemmas.Bool.{cases_Bool, eqb-true, eq-eqb}
+use Rattle.std.proofs.lemmas.Bool.{cases_Bool, eqb-true, eq-eqb, ne_eqb}
 use Rattle.coco_base.specs.declared.netlist.Flat.{Flat}
 use Rattle.coco_base.specs.declared.netlist.FlatCell.{FlatCell}
 use Rattle.coco_base.specs.declared.netlist.FlatFlop.{FlatFlop}
@@ -9,7 +9,7 @@ use Rattle.coco_base.specs.declared.netlist.Wire.TheVariants.{Bit}
 use Rattle.coco_model.specs.Netlist.{wires_of, IsRanked, HasOneDriver, HasNoRepeat, IsCellBit, input_bits}
 use Rattle.coco_model.proofs.Basics.{Contains-here, Contains-later, Contains-cases, Contains-none, any_from_member}
 use Rattle.model_laws.proofs.Lists.{Contains-map}
-use Rattle.model_laws.proofs.Apart.{apart_parts, eq_test}
+use Rattle.model_laws.proofs.Apart.{apart_parts}
 
 -- the first cell that drives a bit
 abbrev pub driver_of : List FlatCell → ℕ → Option FlatCell
@@ -28,7 +28,7 @@ driver_of-listed (d ∷ cs) once c h = go (Contains-cases d c cs h) (λ i. drive
         ap (λ t. cond t (Some d) (driver_of cs c.output)) (eq-eqb d.output c.output (ap (λ (x : FlatCell). x.output) e)) ∙ ap Some e
     go (inr i) rest =
         ap (λ t. cond t (Some d) (driver_of cs c.output))
-        (eq_test d.output c.output (λ same. once.0 (subst (Contains (outputs cs)) (sym same) (Contains-map (λ (x : FlatCell). x.output) cs c i))))
+        (ne_eqb d.output c.output (λ same. once.0 (subst (Contains (outputs cs)) (sym same) (Contains-map (λ (x : FlatCell). x.output) cs c i))))
         ∙ rest i
 
 -- a driver is a cell with this output

@@ -9,12 +9,13 @@ use Rattle.coco_model.specs.Cells.{Allows}
 use Rattle.coco_model.specs.Netlist.{Valuation, IsSettled, IsRanked, HasOneDriver, IsInRange, IsInputBit, IsFlopBit, IsCellBit}
 use Rattle.coco_model.specs.Labels.{Choice, label_count}
 use Rattle.coco_model.specs.Carried.{is_read, word_address, stores, IsBound, AreStarts, IsLabelled}
-use Rattle.coco_model.specs.Run.{Memory, IsRun, AreRuns, before}
+use Rattle.coco_model.specs.Run.{Memory, IsRun, before}
 use Rattle.coco_model.specs.Known.{Row, ones, IsForcedRow, IsKnown}
 use Rattle.coco_model.specs.Controls.{AreControlsKnown, HasControls}
 use Rattle.coco_model.specs.Calm.{IsCalm}
 use Rattle.coco_model.specs.Reach.{Reach, Reaches, IsReach, IsWideReach}
 use Rattle.coco_model.specs.Secure.{IsSecureFor, IsSecure, IsWidelySecure}
+use Rattle.coco_model.specs.Meaning.{HasMeaning}
 use Rattle.coco_model.specs.Events.{Event, waveform, after_events, IsCellOrder}
 use Rattle.coco_model.specs.Events.Event.{leaf, cell}
 use Rattle.coco_model.specs.Roots.{Root, IsRooted, root_value}
@@ -160,21 +161,12 @@ OneWideReachLaw =
     → IsWideReach flat setup cycles other
     → (t b : ℕ) → t < cycles → b < flat.bits → reach t b ≡ other t b
 
--- runs, what is known, roots, what a probe reaches and the coarser reach
-pub record HasMeaning (flat : Flat) (setup : Setup) (cycles : ℕ) : Type 0 where
-  pub run : Choice → ℕ → Valuation
-  pub memory : Choice → ℕ → Memory
-  pub row : ℕ → Row
-  pub word : ℕ → ℕ → Row
-  pub root : ℕ → ℕ → Root
-  pub rooted : ℕ → ℕ → ℕ → Root
-  pub reach : Reach
-  pub wide : Reach
-  pub runs : AreRuns flat setup cycles run memory
-  pub known : IsKnown flat setup cycles row word
-  pub roots : IsRooted flat setup cycles row root rooted
-  pub reaches : IsReach flat setup cycles reach
-  pub connects : IsWideReach flat setup cycles wide
+-- a leaf that a probe reaches where calm bits block, it reaches by structure
+unfoldable pub NarrowReachLaw : Type 0
+NarrowReachLaw =
+    (flat : Flat) (setup : Setup) (cycles : ℕ) (reach wide : Reach) → IsReach flat setup cycles reach
+    → IsWideReach flat setup cycles wide
+    → (t b : ℕ) → t < cycles → b < flat.bits → (leaf : ℕ) → Contains (reach t b) leaf → Contains (wide t b) leaf
 
 -- a netlist and a setup have a meaning, so that what is said of every run and reach says something
 unfoldable pub MeaningLaw : Type 0

@@ -1,7 +1,7 @@
 //! The laws of runs, each the contract of a function that does nothing: what is settled, known, calm, reached and rooted.
 #![tactic(auto)]
 
-ghost use Rattle.model_laws.specs.Laws.{OneSettledLaw, SomeSettledLaw, OneForcedLaw, KnownLaw, RequestsLaw, CalmLaw, WaveformLaw, RootLaw, OneRunLaw, OneKnownLaw, OneRootedLaw, OneReachLaw, OneWideReachLaw, SecureLaw, WidelySecureLaw, MeaningLaw, EndLaw, UnrolledLaw, NodesLaw, NodeSetsLaw, RootSetsLaw, ConesLaw};
+ghost use Rattle.model_laws.specs.Laws.{OneSettledLaw, SomeSettledLaw, OneForcedLaw, KnownLaw, RequestsLaw, CalmLaw, WaveformLaw, RootLaw, OneRunLaw, OneKnownLaw, OneRootedLaw, OneReachLaw, OneWideReachLaw, NarrowReachLaw, SecureLaw, WidelySecureLaw, MeaningLaw, EndLaw, UnrolledLaw, NodesLaw, NodeSetsLaw, RootSetsLaw, ConesLaw};
 
 /// Two settled valuations that agree on the bits that no cell drives are one, where no cells make a loop.
 pub fn one_settled_law()
@@ -69,6 +69,11 @@ pub fn one_reach_law()
 /// The coarser reach by structure alone is one.
 pub fn one_wide_reach_law()
     ensures { OneWideReachLaw }
+{}
+
+/// A leaf that a probe reaches where calm bits block, it reaches by structure.
+pub fn narrow_reach_law()
+    ensures { NarrowReachLaw }
 {}
 
 /// A run that is secure for its one calm-blocked reach is secure.

@@ -98,6 +98,13 @@ input_below order m o c h w i =
     subst (IsWireBelow (length order)) s.image
     (wire_below order s.source (λ n k. o.there n (element_named m (Gate r.source) n r.listed (input_named r.source s.source n s.listed k))))
 
+no_reset : (order : List ℕ) (m : Module) → ArePlain m.elements → (f : FlatFlop) → Contains (flat_with order m).flops f → f.reset ≡ None
+no_reset order m plain f h =
+    let r = flop_image order m.elements f h in
+    let none : r.source.reset ≡ None = plain (Flop r.source) r.listed in
+    let same : r.source.reset ≡ f.reset = ap (λ (z : FlatFlop). z.reset) r.image in
+    cc
+
 in_range : (order : List ℕ) (m : Module) → IsOrderOf order m → ArePlain m.elements → IsInRange (flat_with order m)
 in_range order m o plain = record {
   outputs = λ c h.
@@ -117,17 +124,10 @@ in_range order m o plain = record {
       let r = flop_image order m.elements f h in
       subst (λ (z : FlatFlop). IsWireBelow (length order) z.clock) r.image
       (wire_below order r.source.clock (λ n k. o.there n (element_named m (Flop r.source) n r.listed (clock_wire_named r.source n k))));
-  resets = λ f h w e. absurd (no_reset f h w e);
+  resets = λ f h w e. absurd (let n = no_reset order m plain f h in cc);
   ports = port_below order m o;
   nets = net_below order m o;
 }
-  where
-    no_reset : (f : FlatFlop) → Contains (flat_with order m).flops f → (w : Wire) → f.reset ≡ Some w → ⊥
-    no_reset f h w e =
-        let r = flop_image order m.elements f h in
-        let none : r.source.reset ≡ None = plain (Flop r.source) r.listed in
-        let same : r.source.reset ≡ f.reset = ap (λ (z : FlatFlop). z.reset) r.image in
-        cc
 
 -- ---- the netlist
 
@@ -148,6 +148,7 @@ built_with order m o few once up plain = record {
   port = port_of order m;
   ports = refl;
   wires = refl;
+  resets = no_reset order m plain;
   bits = few;
 }
 

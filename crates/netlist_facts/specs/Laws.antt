@@ -1,13 +1,15 @@
 -- The law of the netlist reader.
-use Rattle.std.specs.Prelude.{◌≡◌, ℕ, ◌≤◌, List, [], ◌∷◌, Ok}
+use Rattle.std.specs.Prelude.{◌≡◌, ℕ, ◌≤◌, List, [], ◌∷◌, Contains, None, Ok}
 use Rattle.coco_base.specs.declared.netlist.Flat.{Flat}
+use Rattle.coco_base.specs.declared.netlist.FlatFlop.{FlatFlop}
 use Rattle.coco_base.specs.declared.netlist.FlatPort.{FlatPort}
 use Rattle.coco_base.specs.declared.netlist.Wire.TheVariants.{Bit}
 use Rattle.coco_model.specs.Netlist.{IsRanked, HasOneDriver, IsInRange, input_bits}
 use Rattle.netlist_json.specs.Netlist.{netlist_from}
 
 -- a circuit without loops, each gate's output with a number above those that the gate reads; no bit has two drivers;
--- all numbers are in range; the one port is the clock's, of one bit; and there are at most 4,096 bits
+-- all numbers are in range; the one port is the clock's, of one bit; no flop has a reset; and there are at most 4,096
+-- bits
 pub record IsBuilt (flat : Flat) : Type 0 where
   pub ranked : IsRanked flat (λ b. b)
   pub one : HasOneDriver flat
@@ -17,6 +19,7 @@ pub record IsBuilt (flat : Flat) : Type 0 where
   pub port : FlatPort
   pub ports : flat.ports ≡ port ∷ []
   pub wires : port.wires ≡ Bit clock ∷ []
+  pub resets : (f : FlatFlop) → Contains flat.flops f → f.reset ≡ None
   pub bits : flat.bits ≤ 4096
 
 -- each netlist that is read is so built

@@ -1,10 +1,10 @@
 //! What the netlist reader promises beyond the form of the file: the netlist that it answers has no loops, no bit with
-//! two drivers and no number out of range, and its one input bit is the clock.
+//! two drivers, no number out of range and no resets, and its one input bit is the clock.
 #![tactic(auto)]
 
 ghost use Rattle.netlist_facts.specs.Laws.{BuiltLaw};
 
-/// Each netlist that is read is a circuit whose gates rise, with one driver for each bit and one input bit.
+/// Each netlist that is read is a circuit whose gates rise, with one driver for each bit, one input bit and no resets.
 pub fn built_law()
     ensures { BuiltLaw }
 {}

@@ -2,3 +2,9 @@ mod ItemLemmas
 mod LineLemmas
 mod NumberLemmas
 mod WordLemmas
+mod NameLemmas
+mod ValueLemmas
+mod DemandLemmas
+mod LayoutLemmas
+mod PlacedLemmas
+mod RoomLemmas

@@ -7,3 +7,11 @@ pub mod Registers
 pub mod Expressions
 pub mod Mnemonics
 pub mod Operands
+pub mod Statements
+pub mod SourceLines
+pub mod Causes
+pub mod Names
+pub mod Values
+pub mod Demands
+pub mod Layouts
+pub mod Programs

@@ -1,7 +1,7 @@
 -- Nodes that correlate with labels have a selection with these labels, by taking the last node out of a sum of signs.
 use Rattle.std.proofs.Common.{◌≡◌, ◌≢◌, ℕ, zero, suc, ◌<◌, ◌≤◌, ◌⊎◌, inl, inr, Bool, true, false, cond, ◌&&◌, List, [], ◌∷◌, length, get_or, map, refl, sym, ◌∙◌, ap, subst, arith, nat_eq, ℤ, pos}
 use Rattle.std.proofs.lemmas.Int.{ints}
-use Rattle.std.proofs.lemmas.Bool.{cases_Bool, cases_lt}
+use Rattle.std.proofs.lemmas.Bool.{cases_Bool, cases_lt, ne_eqb, eq-eqb}
 use Rattle.coco_base.specs.declared.cell.Kind.{Kind}
 use Rattle.coco_base.specs.declared.cell.Part.{Part}
 use Rattle.coco_base.specs.declared.unrolled.Node.{Node}
@@ -13,9 +13,9 @@ use Rattle.coco_model.specs.Nodes.{IsNodeSet}
 use Rattle.walsh_laws.specs.Sums.{parity_below}
 use Rattle.walsh_laws.specs.NodeValues.{input_values, AreOperandsBefore, IsGateValue, IsNodeValue, AreNodeValues}
 use Rattle.walsh_laws.specs.Laws.{is_odd, IsSelected, CorrelationLaw}
-use Rattle.walsh_laws.proofs.Bits.{xor-swap, xor-assoc, xor-comm, xor-twice, signed-xor, signed-zero}
+use Rattle.coco_model.proofs.Bits.{xor-swap, xor-assoc, xor-comm, xor-twice, signed-xor, signed-zero}
 use Rattle.walsh_laws.proofs.Totals.{total, total-cong, total-signed, sign_total-choices}
-use Rattle.walsh_laws.proofs.Parity.{differs, same, parity-cong, parity-xor, parity_one, picked, parity_picked, label_parity, label_parity-xor, label_parity_one, label_parity-below, total_label}
+use Rattle.walsh_laws.proofs.Parity.{parity-cong, parity-xor, parity_one, picked, parity_picked, label_parity, label_parity-xor, label_parity_one, label_parity-below, total_label}
 use Rattle.walsh_laws.proofs.GateStep.{signed_total, signed_total-signs, IsGateStep, gate_step}
 
 -- the sum of signs of nodes and labels
@@ -56,10 +56,10 @@ abbrev put_set : (ℕ → Labels) → ℕ → Labels → ℕ → Labels
 put_set sets n own i l = cond (nat_eq i n) (own l) (sets i l)
 
 put_set-here : (sets : ℕ → Labels) (n : ℕ) (own : Labels) (l : ℕ) → put_set sets n own n l ≡ own l
-put_set-here sets n own l = rw (same n) refl
+put_set-here sets n own l = rw (eq-eqb n n refl) refl
 
 put_set-other : (sets : ℕ → Labels) (n : ℕ) (own : Labels) (i l : ℕ) → i < n → put_set sets n own i l ≡ sets i l
-put_set-other sets n own i l h = rw (differs i n (λ e. omega arith)) refl
+put_set-other sets n own i l h = rw (ne_eqb i n (λ e. omega arith)) refl
 
 -- a set for node n, by those of the nodes before
 pub record HasOwnSet (n : ℕ) (node : Node) : Type 0 where
@@ -170,7 +170,7 @@ step n labels value Nothing holds members W inside k = record {
 step n labels value (Label j) holds members W inside k = record {
   fewer = members;
   left = λ l. xor (nat_eq j l) (W l);
-  inside = λ l h. rw (inside l h, differs j l (let b = holds.0 in λ e. omega arith)) refl;
+  inside = λ l h. rw (inside l h, ne_eqb j l (let b = holds.0 in λ e. omega arith)) refl;
   remains = λ e. k (total-cong labels _ _ (λ c h. ap (λ b. signed b (pos 1)) (moved c h)) ∙ e);
   own_set = any_set n labels value (Label j) holds;
   joins = λ sets l e. sym (xor-twice (nat_eq j l) (W l)) ∙ ap (xor (nat_eq j l)) e;

@@ -1,7 +1,7 @@
 -- Nodes that do not correlate with secret bits have equal counts.
 use Rattle.std.proofs.Common.{◌≡◌, ◌≢◌, ℕ, ◌<◌, ◌⊎◌, inl, inr, Bool, true, false, ◌&&◌, List, [], ◌∷◌, map, length, get_or, refl, sym, ◌∙◌, ap, subst, arith, nat_eq, pos}
 use Rattle.std.specs.Prelude.{Contains}
-use Rattle.std.proofs.lemmas.Bool.{true≢false, false≢true, cases_Bool, cases_eq, and_parts}
+use Rattle.std.proofs.lemmas.Bool.{true≢false, false≢true, cases_Bool, cases_eq, and_parts, ne_eqb}
 use Rattle.std.proofs.lemmas.List.{length-map}
 use Rattle.coco_base.specs.declared.labels.LabelTable.{LabelTable}
 use Rattle.coco_base.specs.declared.unrolled.Node.{Node}
@@ -13,10 +13,10 @@ use Rattle.coco_model.proofs.Basics.{Contains-here, Contains-later}
 use Rattle.walsh_laws.specs.Sums.{parity_below}
 use Rattle.walsh_laws.specs.NodeValues.{IsNodeValue, AreNodeValues}
 use Rattle.walsh_laws.specs.Laws.{is_odd, IsShownSet, IsUncorrelated, count_with_values, CountingLaw}
-use Rattle.walsh_laws.proofs.Bits.{xor-assoc, xor-swap, and-xor_right, signed-xor, signed-zero, and-false}
+use Rattle.coco_model.proofs.Bits.{xor-assoc, xor-swap, and-xor_right, signed-xor, signed-zero, and-false}
 use Rattle.walsh_laws.proofs.Totals.{total, total-cong, total-signed, sign_total-choices}
-use Rattle.walsh_laws.proofs.Parity.{differs, parity-cong, parity-xor, parity_one, parity_none, picked, label_parity-below}
-use Rattle.walsh_laws.proofs.Choices.{count, count-cong, filtered_twice}
+use Rattle.walsh_laws.proofs.Parity.{parity-cong, parity-xor, parity_one, parity_none, picked, label_parity-below}
+use Rattle.coco_model.proofs.Choices.{count, count-cong, filtered_twice}
 use Rattle.walsh_laws.proofs.Counts.{IsBalanced, balanced-cong, balanced_from_total, values_of, balanced_showing, equal_counts}
 use Rattle.walsh_laws.proofs.WholeSets.{labels_of, label_parity_of, whole_set, whole_label, HasLabel}
 
@@ -48,7 +48,7 @@ picked-listed (true ∷ ss) (o ∷ os) i e = go (cases_eq o i) (picked-listed ss
   where
     go : (o ≡ i) ⊎ (o ≢ i) → (picked ss os i ≡ true → Contains os i) → Contains (o ∷ os) i
     go (inl k) rest = subst (Contains (o ∷ os)) k (Contains-here o os)
-    go (inr n) rest = Contains-later o i os (rest (sym (ap (λ b. xor b (picked ss os i)) (differs o i n)) ∙ e))
+    go (inr n) rest = Contains-later o i os (rest (sym (ap (λ b. xor b (picked ss os i)) (ne_eqb o i n)) ∙ e))
 
 picked_shown : (nodes : ℕ → Node) (subset : Subset) (shown : List ℕ) → IsShownSet shown nodes (picked_nodes nodes subset shown)
 picked_shown nodes subset shown = record {
@@ -62,8 +62,8 @@ parity_one_where n o k v below = go (k o) refl
   where
     there : (b : Bool) → k o ≡ b → (i : ℕ) → (o ≡ i) ⊎ (o ≢ i) → (k i && nat_eq o i) ≡ (b && nat_eq o i)
     there b e i (inl f) = rw (← f, e) refl
-    there true e i (inr n) = rw (differs o i n) (and-false (k i))
-    there false e i (inr n) = rw (differs o i n) (and-false (k i))
+    there true e i (inr n) = rw (ne_eqb o i n) (and-false (k i))
+    there false e i (inr n) = rw (ne_eqb o i n) (and-false (k i))
 
     go : (b : Bool) → k o ≡ b → parity_below n (λ i. k i && nat_eq o i) v ≡ (k o && v o)
     go true e = parity-cong n _ _ v v (λ i h. there true e i (cases_eq o i)) (λ i h. refl) ∙ parity_one n o v below ∙ rw e refl

@@ -4,9 +4,10 @@ use Rattle.std.proofs.lemmas.Int.{ints}
 use Rattle.std.proofs.lemmas.Bool.{false≢true, and_parts}
 use Rattle.coco_model.specs.Cells.{xor, signed, chosen_parity, Subset}
 use Rattle.coco_model.specs.Labels.{Choice, same_bits}
-use Rattle.walsh_laws.proofs.Bits.{xor-assoc, xor-comm, and-true}
+use Rattle.coco_model.proofs.Bits.{xor-assoc, xor-comm, and-true}
 use Rattle.walsh_laws.proofs.Totals.{total}
-use Rattle.walsh_laws.proofs.Choices.{count, count-cong, count_split, count_none, total-count, IsPassing, passing_or_none}
+use Rattle.coco_model.proofs.Choices.{count, count-cong}
+use Rattle.walsh_laws.proofs.Choices.{count_split, count_none, total-count, IsPassing, passing_or_none}
 
 -- of the choices that pass p, as many pass q as fail it
 pub record IsBalanced (n : ℕ) (p q : Choice → Bool) : Type 0 where

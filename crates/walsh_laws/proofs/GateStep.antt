@@ -5,11 +5,14 @@ use Rattle.std.proofs.lemmas.Int.{ints}
 use Rattle.std.proofs.lemmas.Bool.{false≢true}
 use Rattle.coco_base.specs.declared.cell.Part.{Part}
 use Rattle.coco_base.specs.declared.cell.Part.TheVariants.{Zero, One, Vary}
-use Rattle.coco_model.specs.Cells.{xor, signed, sign_total, chosen_parity, allowed_inputs, IsSubsetOf, Subset}
+use Rattle.coco_model.specs.Cells.{xor, signed, chosen_parity, IsSubsetOf, Subset}
 use Rattle.coco_model.specs.Labels.{Choice}
 use Rattle.walsh_laws.specs.NodeValues.{input_values}
-use Rattle.walsh_laws.proofs.Bits.{xor-swap, xor-false, and-false, and-true, signed-add, signed-neg, signed-zero}
-use Rattle.walsh_laws.proofs.Totals.{total, total-cong, total-add, total_factor, total_none, sign_total-halves, sign_total-map, sign_total-cong, sign_total-signed}
+use Rattle.coco_model.proofs.Bits.{xor-false, signed-add, signed-neg, signed-zero}
+use Rattle.cell_table.specs.Sums.{sum_of}
+use Rattle.cell_table.proofs.Sums.{sum-zero, sum-one, sum-vary}
+use Rattle.cell_table.proofs.LawLemmas.{subset_behind}
+use Rattle.walsh_laws.proofs.Totals.{total, total-cong, total-add, total_factor, total_none}
 
 -- the signed sum of any function into the whole numbers, place by place
 abbrev pub signed_total : (List Bool → ℤ) → Subset → List Part → ℤ
@@ -45,42 +48,27 @@ signed_total-neg f (s ∷ ss) (Vary ∷ ps) =
       signed-neg s (signed_total (λ xs. f (true ∷ xs)) ss ps),
     ) (omega (arith, ints))
 
-pub subset_behind : (s : Bool) (ss : Subset) (p : Part) (ps : List Part) → IsSubsetOf (s ∷ ss) (p ∷ ps) → IsSubsetOf ss ps
-subset_behind s ss p ps h = let n = h.as_long in record { as_long = omega arith; varies = λ place e. h.varies (suc place) e }
-
 not_chosen : (s : Bool) (ss : Subset) (p : Part) (ps : List Part) → IsSubsetOf (s ∷ ss) (p ∷ ps) → p ≢ Vary → s ≡ false
 not_chosen true ss p ps h n = absurd (n (h.varies 0 refl))
 not_chosen false ss p ps h n = refl
 
 -- of signs it is the signed sum
 pub signed_total-signs : (f : List Bool → Bool) (ss : Subset) (ps : List Part) → IsSubsetOf ss ps
-    → signed_total (λ xs. signed (f xs) (pos 1)) ss ps ≡ sign_total (λ xs. xor (f xs) (chosen_parity ss xs)) (allowed_inputs ps)
+    → signed_total (λ xs. signed (f xs) (pos 1)) ss ps ≡ sum_of f ss ps
 signed_total-signs f [] [] h = rw (xor-false (f [])) (omega (arith, ints))
 signed_total-signs f (s ∷ ss) [] h = rw (xor-false (f [])) (omega (arith, ints))
 signed_total-signs f [] (p ∷ ps) h = let n = h.as_long in absurd (omega arith)
 signed_total-signs f (s ∷ ss) (Zero ∷ ps) h =
-    signed_total-signs (λ xs. f (false ∷ xs)) ss ps (subset_behind s ss Zero ps h)
-    ∙ sign_total-cong _ _ (λ x. rw (and-false s) refl) (allowed_inputs ps)
-    ∙ sym (sign_total-map (λ xs. xor (f xs) (chosen_parity (s ∷ ss) xs)) (λ (xs : List Bool). false ∷ xs) (allowed_inputs ps))
+    signed_total-signs (λ xs. f (false ∷ xs)) ss ps (subset_behind s ss Zero ps h) ∙ sym (sum-zero f s ss ps)
 signed_total-signs f (s ∷ ss) (One ∷ ps) h =
     signed_total-signs (λ xs. f (true ∷ xs)) ss ps (subset_behind s ss One ps h)
-    ∙ sign_total-cong _ _ (λ x. rw (not_chosen s ss One ps h (λ e. cc)) refl) (allowed_inputs ps)
-    ∙ sym (sign_total-map (λ xs. xor (f xs) (chosen_parity (s ∷ ss) xs)) (λ (xs : List Bool). true ∷ xs) (allowed_inputs ps))
+    ∙ sym (sum-one f s ss ps ∙ rw (not_chosen s ss One ps h (λ e. cc)) refl)
 signed_total-signs f (s ∷ ss) (Vary ∷ ps) h =
     ap (λ y. y +ℤ signed s (signed_total (λ xs. signed (f (true ∷ xs)) (pos 1)) ss ps))
     (signed_total-signs (λ xs. f (false ∷ xs)) ss ps (subset_behind s ss Vary ps h))
-    ∙ ap (λ y. sign_total (λ xs. xor (f (false ∷ xs)) (chosen_parity ss xs)) (allowed_inputs ps) +ℤ signed s y)
+    ∙ ap (λ y. sum_of (λ xs. f (false ∷ xs)) ss ps +ℤ signed s y)
     (signed_total-signs (λ xs. f (true ∷ xs)) ss ps (subset_behind s ss Vary ps h))
-    ∙ rw (first, second) (sym (sign_total-halves (λ xs. xor (f xs) (chosen_parity (s ∷ ss) xs)) (allowed_inputs ps) (allowed_inputs ps)))
-  where
-    first : sign_total (λ xs. xor (f (false ∷ xs)) (chosen_parity ss xs)) (allowed_inputs ps)
-        ≡ sign_total (λ xs. xor (f (false ∷ xs)) (chosen_parity (s ∷ ss) (false ∷ xs))) (allowed_inputs ps)
-    first = sign_total-cong _ _ (λ x. rw (and-false s) refl) (allowed_inputs ps)
-
-    second : signed s (sign_total (λ xs. xor (f (true ∷ xs)) (chosen_parity ss xs)) (allowed_inputs ps))
-        ≡ sign_total (λ xs. xor (f (true ∷ xs)) (chosen_parity (s ∷ ss) (true ∷ xs))) (allowed_inputs ps)
-    second = sym (sign_total-signed s (λ xs. xor (f (true ∷ xs)) (chosen_parity ss xs)) (allowed_inputs ps))
-        ∙ sign_total-cong _ _ (λ x. rw (and-true s) (xor-swap s (f (true ∷ x)) (chosen_parity ss x))) (allowed_inputs ps)
+    ∙ sym (sum-vary f s ss ps)
 
 -- a subset of the unknown inputs at which the signed sum is not 0, and where the operands' values stand for the function's
 pub record IsGateStep (f : List Bool → ℤ) (n : ℕ) (value : Choice → ℕ → Bool) (rest : Choice → Bool) (ps : List Part)

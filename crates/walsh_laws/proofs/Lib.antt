@@ -1,4 +1,3 @@
-pub mod Bits
 pub mod Totals
 pub mod Parity
 pub mod GateStep
@@ -16,8 +15,9 @@ pub mod Ready
 pub mod RunCorrelation
 pub mod RunCounting
 pub mod NoFinding
+pub mod Determined
 pub mod InTime
-pub mod GateLives
+pub mod Narrow
 pub mod RootCones
 pub mod OneFinding
 pub mod Cover

@@ -13,7 +13,8 @@ use Rattle.coco_model.specs.Secure.{IsProbe, IsSecureFor, IsSecure}
 use Rattle.coco_model.specs.Findings.{Labels, IsWhole, IsSeen, HasFinding}
 use Rattle.coco_model.proofs.Basics.{Contains-here}
 use Rattle.model_laws.proofs.Securely.{secure_law}
-use Rattle.model_laws.specs.Laws.{HasMeaning, SecureLaw}
+use Rattle.coco_model.specs.Meaning.{HasMeaning}
+use Rattle.model_laws.specs.Laws.{SecureLaw}
 use Rattle.walsh_laws.specs.Security.{IsSimulated, IsPair, correlation, IsSetOfPairs, NoFindingLaw}
 use Rattle.walsh_laws.proofs.WholeSets.{whole_outside}
 use Rattle.walsh_laws.proofs.Listing.{IsOnce, once_of}

@@ -1,14 +1,14 @@
 -- Numbers that choose the sets of nodes.
-use Rattle.std.proofs.Common.{◌≡◌, ◌≢◌, ℕ, zero, suc, ◌+◌, ◌*◌, ◌^◌, ◌/◌, ◌<◌, ◌≤◌, Bool, true, false, cond, List, [], ◌∷◌, length, take, refl, sym, ◌∙◌, ap, subst, arith, nat_eq, lit≤, pow-suc}
+use Rattle.std.proofs.Common.{◌≡◌, ◌≢◌, ℕ, ◌+◌, ◌*◌, ◌^◌, ◌/◌, ◌<◌, Bool, true, false, cond, List, [], ◌∷◌, length, refl, sym, ◌∙◌, ap, subst, arith, nat_eq, lit≤, pow-suc}
 use Rattle.std.proofs.lemmas.Nat.{div-mul-add, mod-mul-add}
 use Rattle.coco_base.specs.declared.cell.Kind.{Kind}
-use Rattle.coco_base.specs.declared.cell.Kind.TheVariants.{Buf, Not, And, Nand, Or, Nor, Xor, Xnor, AndNot, OrNot, Mux, Nmux, Aoi3, Oai3, Aoi4, Oai4}
 use Rattle.coco_base.specs.declared.cell.Part.{Part}
 use Rattle.coco_base.specs.declared.unrolled.Node.{Node}
 use Rattle.coco_base.specs.declared.unrolled.Node.TheVariants.{Nothing, Label, Copy, Gate}
 use Rattle.coco_model.specs.Cells.{input_count, input_places, Subset, subset_of_number}
 use Rattle.coco_model.specs.Findings.{Labels, chosen_set}
 use Rattle.coco_model.specs.Nodes.{IsGateChoice, IsNodeSet, IsAllowedChoice, node_set}
+use Rattle.cell_table.proofs.Sums.{length-input_places}
 
 -- the number whose bits are a subset
 abbrev pub number_of_subset : Subset → ℕ
@@ -35,29 +35,6 @@ number-below : (ss : Subset) → number_of_subset ss < 2 ^ length ss
 number-below [] = lit≤ tt
 number-below (s ∷ ss) = rw (pow-suc 2 (length ss)) (let e = number-below ss in let b = bit_below s in omega arith)
 
-input_count-four : (kind : Kind) → input_count kind ≤ 4
-input_count-four Buf = lit≤ tt
-input_count-four Not = lit≤ tt
-input_count-four And = lit≤ tt
-input_count-four Nand = lit≤ tt
-input_count-four Or = lit≤ tt
-input_count-four Nor = lit≤ tt
-input_count-four Xor = lit≤ tt
-input_count-four Xnor = lit≤ tt
-input_count-four AndNot = lit≤ tt
-input_count-four OrNot = lit≤ tt
-input_count-four Mux = lit≤ tt
-input_count-four Nmux = lit≤ tt
-input_count-four Aoi3 = lit≤ tt
-input_count-four Oai3 = lit≤ tt
-input_count-four Aoi4 = lit≤ tt
-input_count-four Oai4 = lit≤ tt
-
-length-taken : {X : Type 0} (n : ℕ) (xs : List X) → n ≤ length xs → length (take n xs) ≡ n
-length-taken zero xs h = refl
-length-taken (suc n) [] h = absurd (omega arith)
-length-taken (suc n) (x ∷ xs) h = ap suc (length-taken n xs (omega arith))
-
 -- a number for the set of a node, which is 0 where the node is no gate
 pub record IsNumberFor (sets : ℕ → Labels) (i : ℕ) (node : Node) : Type 0 where
   pub number : ℕ
@@ -83,8 +60,7 @@ number_for sets i (Gate kind parts operands) four set = record {
 }
   where
     as_many : length set.subset ≡ input_count kind
-    as_many = set.choice.varies.as_long
-        ∙ length-taken (input_count kind) parts (let e = four kind parts operands refl in let b = input_count-four kind in omega arith)
+    as_many = set.choice.varies.as_long ∙ length-input_places kind parts (four kind parts operands refl)
 
     same : subset_of_number (input_count kind) (number_of_subset set.subset) ≡ set.subset
     same = ap (λ n. subset_of_number n (number_of_subset set.subset)) (sym as_many) ∙ subset-number set.subset

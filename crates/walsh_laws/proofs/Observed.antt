@@ -2,25 +2,14 @@
 use Rattle.std.proofs.Common.{◌≡◌, ℕ, zero, suc, ◌<◌, ◌⊎◌, inl, inr, Bool, List, [], ◌∷◌, ◌++◌, map, refl, sym, ◌∙◌, ap}
 use Rattle.std.specs.Prelude.{Contains, flat_map}
 use Rattle.std.proofs.lemmas.List.{map-append}
-use Rattle.coco_base.specs.declared.netlist.Flat.{Flat}
-use Rattle.coco_base.specs.declared.netlist.Wire.TheVariants.{Bit}
 use Rattle.coco_base.specs.declared.finding.Probe.{Probe}
-use Rattle.coco_model.specs.Netlist.{Valuation, wires_of, IsInRange}
+use Rattle.coco_model.specs.Netlist.{Valuation}
 use Rattle.coco_model.specs.Run.{before}
-use Rattle.coco_model.specs.Known.{Row}
-use Rattle.coco_model.specs.Reach.{Reach, Reaches}
-use Rattle.coco_model.specs.Reach.Reaches.{here, through}
+use Rattle.coco_model.specs.Reach.{Reach}
 use Rattle.coco_model.specs.Secure.{observation}
 use Rattle.coco_model.proofs.Basics.{Contains-here, Contains-later, Contains-cases, Contains-none}
-use Rattle.model_laws.proofs.Calms.{member_at}
 use Rattle.coco_model.proofs.Keepers.{before_below}
 use Rattle.model_laws.proofs.Lists.{IsJoined, joined_of_flat_map}
-
--- a reached leaf is a bit of the netlist
-pub reached_inside : (flat : Flat) (calm : Row) (leaf b : ℕ) → IsInRange flat → Reaches flat calm leaf b → b < flat.bits → leaf < flat.bits
-reached_inside flat calm leaf b range (here none varies) inside = inside
-reached_inside flat calm leaf b range (through bit c place from listed drives varies live wired rest) inside =
-    reached_inside flat calm leaf from range rest (range.inputs c listed (Bit from) (member_at (wires_of c) place from wired))
 
 -- the numbers of a leaf in the cycle before and in the cycle
 abbrev pub leaf_numbers : (ℕ → ℕ → ℕ) → ℕ → ℕ → List ℕ

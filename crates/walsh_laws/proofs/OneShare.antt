@@ -23,7 +23,8 @@ use Rattle.coco_model.specs.Findings.{HasFinding}
 use Rattle.coco_model.specs.Examples.{input_port, keeper, one_register, one_secret}
 use Rattle.coco_model.proofs.Basics.{Contains-here, Contains-later, Contains-cases, Contains-none, some_from_any}
 use Rattle.model_laws.proofs.Meanings.{meaning_law}
-use Rattle.model_laws.specs.Laws.{HasMeaning, MeaningLaw}
+use Rattle.coco_model.specs.Meaning.{HasMeaning}
+use Rattle.model_laws.specs.Laws.{MeaningLaw}
 use Rattle.walsh_laws.specs.Security.{NoFindingLaw}
 use Rattle.walsh_laws.specs.Examples.{one_share_setup}
 use Rattle.walsh_laws.proofs.NoFinding.{no_finding_law}

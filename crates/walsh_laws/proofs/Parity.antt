@@ -1,12 +1,12 @@
 -- Exclusive ors over sets of numbers, and over the labels of a choice.
 use Rattle.std.proofs.Common.{◌≡◌, ◌≢◌, ℕ, zero, suc, ◌<◌, ◌⊎◌, inl, inr, Bool, true, false, ◌&&◌, List, [], ◌∷◌, length, get_or, map, refl, sym, ◌∙◌, ap, arith, nat_eq, ℤ, pos, ◌+ℤ◌, neg_ℤ}
 use Rattle.std.proofs.lemmas.Int.{ints}
-use Rattle.std.proofs.lemmas.Bool.{true≢false, cases_eq, eq-eqb, cases_Bool}
-use Rattle.std.proofs.lemmas.Bool.Decides.{nat_tests}
+use Rattle.std.proofs.lemmas.Bool.{true≢false, cases_eq, eq-eqb, cases_Bool, ne_eqb}
+use Rattle.std.proofs.Math.Dec.{eqb-suc-zero, eqb-suc-suc}
 use Rattle.coco_model.specs.Cells.{xor, signed, chosen_parity}
 use Rattle.coco_model.specs.Labels.{Choice, label_bit}
 use Rattle.walsh_laws.specs.Sums.{parity_below}
-use Rattle.walsh_laws.proofs.Bits.{xor-false, xor-four, xor-swap, and-xor, and-xor_right, and-false, signed-xor}
+use Rattle.coco_model.proofs.Bits.{xor-false, xor-four, xor-swap, and-xor, and-xor_right, and-false, signed-xor}
 use Rattle.walsh_laws.proofs.Totals.{total, total-cong, total-neg}
 
 pub parity-cong : (n : ℕ) (U V : ℕ → Bool) (v w : ℕ → Bool) → ((i : ℕ) → i < n → U i ≡ V i) → ((i : ℕ) → i < n → v i ≡ w i)
@@ -34,12 +34,6 @@ pub parity_none : (n : ℕ) (U v : ℕ → Bool) → ((i : ℕ) → i < n → U 
 parity_none zero U v e = refl
 parity_none (suc n) U v e = rw (e n (omega arith), parity_none n U v (λ i h. e i (omega arith))) refl
 
-pub differs : (a b : ℕ) → a ≢ b → nat_eq a b ≡ false
-differs a b n = grind (arith, nat_tests)
-
-pub same : (a : ℕ) → nat_eq a a ≡ true
-same a = eq-eqb a a refl
-
 -- one number alone
 pub parity_one : (n j : ℕ) (v : ℕ → Bool) → j < n → parity_below n (λ i. nat_eq j i) v ≡ v j
 parity_one zero j v h = absurd (omega arith)
@@ -47,8 +41,8 @@ parity_one (suc n) j v h = go (cases_eq j n) (parity_one n j v)
   where
     go : (j ≡ n) ⊎ (j ≢ n) → (j < n → parity_below n (λ i. nat_eq j i) v ≡ v j)
         → xor (nat_eq j n && v n) (parity_below n (λ i. nat_eq j i) v) ≡ v j
-    go (inl e) rest = rw (e, same n, parity_none n (λ i. nat_eq n i) v (λ i k. differs n i (omega arith))) (xor-false (v n))
-    go (inr k) rest = rw (differs j n k) (rest (omega arith))
+    go (inl e) rest = rw (e, eq-eqb n n refl, parity_none n (λ i. nat_eq n i) v (λ i k. ne_eqb n i (omega arith))) (xor-false (v n))
+    go (inr k) rest = rw (ne_eqb j n k) (rest (omega arith))
 
 -- the numbers at the places of a subset, each as often as it stands there
 abbrev pub picked : List Bool → List ℕ → ℕ → Bool
@@ -86,20 +80,10 @@ pub label_parity_none : (W : ℕ → Bool) → ((l : ℕ) → W l ≡ false) →
 label_parity_none W e [] = refl
 label_parity_none W e (a ∷ c) = rw (e 0, label_parity_none (later W) (λ l. e (suc l)) c) refl
 
-suc_differs : (k : ℕ) → nat_eq (suc k) 0 ≡ false
-suc_differs k = differs (suc k) 0 (λ e. omega arith)
-
-suc_same : (k l : ℕ) → nat_eq (suc k) (suc l) ≡ nat_eq k l
-suc_same k l = go (cases_eq k l)
-  where
-    go : (k ≡ l) ⊎ (k ≢ l) → nat_eq (suc k) (suc l) ≡ nat_eq k l
-    go (inl e) = rw (e, same l) (same (suc l))
-    go (inr n) = rw (differs k l n) (differs (suc k) (suc l) (λ e. n (omega arith)))
-
 pub label_parity_one : (k : ℕ) (c : Choice) → label_parity (nat_eq k) c ≡ label_bit c k
 label_parity_one k [] = refl
-label_parity_one zero (a ∷ c) = rw (label_parity_none (λ l. nat_eq 0 (suc l)) (λ l. differs 0 (suc l) (λ e. omega arith)) c) (xor-false a)
-label_parity_one (suc k) (a ∷ c) = rw (suc_differs k) (label_parity-cong (λ l. nat_eq (suc k) (suc l)) (nat_eq k) (suc_same k) c
+label_parity_one zero (a ∷ c) = rw (label_parity_none (λ l. nat_eq 0 (suc l)) (λ l. ne_eqb 0 (suc l) (λ e. omega arith)) c) (xor-false a)
+label_parity_one (suc k) (a ∷ c) = rw (eqb-suc-zero k) (label_parity-cong (λ l. nat_eq (suc k) (suc l)) (nat_eq k) (eqb-suc-suc k) c
     ∙ label_parity_one k c)
 
 parity_below-first : (n : ℕ) (U v : ℕ → Bool) → parity_below (suc n) U v ≡ xor (U 0 && v 0) (parity_below n (later U) (later v))

@@ -20,7 +20,8 @@ use Rattle.coco_model.specs.Roots.{Root, IsRooted}
 use Rattle.coco_model.proofs.Keepers.{before_below}
 use Rattle.model_laws.proofs.Unique.{one_known_law}
 use Rattle.model_laws.proofs.Meanings.{meaning_law}
-use Rattle.model_laws.specs.Laws.{IsChecked, OneKnownLaw, HasMeaning, MeaningLaw}
+use Rattle.coco_model.specs.Meaning.{HasMeaning}
+use Rattle.model_laws.specs.Laws.{IsChecked, OneKnownLaw, MeaningLaw}
 use Rattle.walsh_laws.specs.Security.{IsSimulated}
 use Rattle.walsh_laws.proofs.RunNodes.{IsReady}
 

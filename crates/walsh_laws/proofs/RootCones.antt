@@ -7,7 +7,7 @@ use Rattle.coco_base.specs.declared.netlist.FlatCell.{FlatCell}
 use Rattle.coco_base.specs.declared.netlist.Wire.{Wire}
 use Rattle.coco_base.specs.declared.netlist.Wire.TheVariants.{Const, Bit}
 use Rattle.coco_base.specs.declared.setup.Setup.{Setup}
-use Rattle.coco_model.specs.Cells.{xor, Subset}
+use Rattle.coco_model.specs.Cells.{xor, output_of, Subset}
 use Rattle.coco_model.specs.Netlist.{wires_of}
 use Rattle.coco_model.specs.Labels.{label_count}
 use Rattle.coco_model.specs.Known.{Row, cell_parts}
@@ -17,14 +17,15 @@ use Rattle.coco_model.specs.Findings.{Labels, chosen_set, IsChosen, IsSelection}
 use Rattle.coco_model.specs.Cones.{IsInRootCone}
 use Rattle.coco_model.specs.Cones.IsInRootCone.{here, through}
 use Rattle.coco_model.proofs.Basics.{Contains-here, Contains-later, some_from_any, IsSome}
+use Rattle.coco_model.proofs.LivePlaces.{live_input}
+use Rattle.cell_table.proofs.LawLemmas.{sum_lives}
 use Rattle.model_laws.specs.Laws.{IsRootInRange}
 use Rattle.walsh_laws.specs.Covered.{SelectionConeLaw}
 use Rattle.walsh_laws.proofs.Numbering.{number-earlier, number-lower}
 use Rattle.walsh_laws.proofs.Homes.{root_home}
 use Rattle.walsh_laws.proofs.RunNodes.{IsReady, index_of, in_range, output_below}
-use Rattle.walsh_laws.proofs.Bits.{and-false}
+use Rattle.coco_model.proofs.Bits.{and-false}
 use Rattle.walsh_laws.proofs.Ready.{ready_of}
-use Rattle.walsh_laws.proofs.GateLives.{gate_lives}
 
 -- a place of a subset whose set has a label
 pub record IsChosenPlace {X : Type 0} (set_of : X → Labels) (subset : Subset) (xs : List X) (l : ℕ) : Type 0 where
@@ -119,7 +120,7 @@ module _ (flat : Flat) (setup : Setup) (cycles : ℕ) (rank : ℕ → ℕ) (row 
                       → set_of (wire_root (root t) w) l ≡ true → IsInRootCone flat row root l (output t c)
                   wire (Const b) at reads is = absurd (false≢true (sym (selection.empty l) ∙ is))
                   wire (Bit n) at reads is = through (output t c) t x.member p.place n x.listed (ap (output t) (sym x.holds))
-                      (gate_lives x.member.kind (cell_parts (row t) x.member) h.subset h.unknown h.signed p.place p.chosen) at
+                      (live_input x.member.kind (cell_parts (row t) x.member) p.place (sum_lives (output_of x.member.kind) h.subset (cell_parts (row t) x.member) h.unknown h.signed p.place p.chosen)) at
                       (by_lower (index_of flat rank t c) t n l below (λ s d e. lower n reads s d e ((range_at t n below).earlier s d e))
                       cones (root t n) refl is)
 

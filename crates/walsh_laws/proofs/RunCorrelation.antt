@@ -19,7 +19,7 @@ use Rattle.model_laws.specs.Laws.{RootLaw, RootSetsLaw, HasSelection}
 use Rattle.walsh_laws.specs.Sums.{parity_below}
 use Rattle.walsh_laws.specs.Laws.{is_odd, IsSelected, CorrelationLaw}
 use Rattle.walsh_laws.specs.Security.{IsPair, is_odd_in_run, correlation, IsSetOfPairs, RunCorrelationLaw}
-use Rattle.walsh_laws.proofs.Totals.{sign_total-cong}
+use Rattle.coco_model.proofs.Signs.{sign_total-cong}
 use Rattle.walsh_laws.proofs.Parity.{parity-xor, parity_one, parity_none}
 use Rattle.walsh_laws.proofs.Correlation.{correlation_law}
 use Rattle.walsh_laws.proofs.Numbering.{number_count, number-inside}

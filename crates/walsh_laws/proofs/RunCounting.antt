@@ -16,19 +16,20 @@ use Rattle.coco_model.specs.Reach.{Reach}
 use Rattle.coco_model.specs.Roots.{Root}
 use Rattle.coco_model.specs.Secure.{IsProbe, count_showing}
 use Rattle.coco_model.specs.Findings.{Labels, IsSeen}
+use Rattle.model_laws.proofs.Lives.{reached_below}
 use Rattle.model_laws.proofs.Calms.{vary_or_not}
 use Rattle.coco_model.proofs.Keepers.{before_below}
-use Rattle.model_laws.specs.Laws.{HasMeaning}
+use Rattle.coco_model.specs.Meaning.{HasMeaning}
 use Rattle.walsh_laws.specs.Sums.{parity_below}
 use Rattle.walsh_laws.specs.Laws.{is_odd, IsShownSet, IsUncorrelated, count_with_values, CountingLaw}
 use Rattle.walsh_laws.specs.Security.{IsSimulated, is_odd_in_run, IsRunUncorrelated, RunCountingLaw}
-use Rattle.walsh_laws.proofs.Totals.{sign_total-cong}
+use Rattle.coco_model.proofs.Signs.{sign_total-cong}
 use Rattle.walsh_laws.proofs.Parity.{parity-cong_members}
 use Rattle.walsh_laws.proofs.Counting.{counting_law}
 use Rattle.walsh_laws.proofs.Numbering.{number_count, number-inside, at_number, at_number-number}
 use Rattle.walsh_laws.proofs.RunNodes.{IsReady, index_of, nothing_node, nothing_if_known, run_nodes, run_values, are_values, value_at}
 use Rattle.walsh_laws.proofs.Listing.{listing, IsListed, listing-member, listing-once, listing-parity}
-use Rattle.walsh_laws.proofs.Observed.{reached_inside, shown_numbers, AreNumbered, observed, IsShownNumber, shown_number, shows_when}
+use Rattle.walsh_laws.proofs.Observed.{shown_numbers, AreNumbered, observed, IsShownNumber, shown_number, shows_when}
 use Rattle.walsh_laws.proofs.Ready.{AreReached, reached_of, ready_of, meaning_of, same_row, simulated_by}
 
 module _ (flat : Flat) (setup : Setup) (cycles : ℕ) (rank : ℕ → ℕ) (row : ℕ → Row) (word : ℕ → ℕ → Row) (root : ℕ → ℕ → Root)
@@ -36,7 +37,7 @@ module _ (flat : Flat) (setup : Setup) (cycles : ℕ) (rank : ℕ → ℕ) (row 
     (ready : IsReady flat setup cycles rank row word root rooted) (calm : ℕ → Row) (reach : Reach)
     (reached : AreReached flat setup cycles row calm reach) where
   leaf_inside : (p : Probe) → IsProbe flat setup cycles p → (l : ℕ) → Contains (reach p.cycle p.bit) l → l < flat.bits
-  leaf_inside p is l h = reached_inside flat (calm p.cycle) l p.bit ready.range (((reached.reached p.cycle is.cycle p.bit is.bit).1 l).0 h)
+  leaf_inside p is l h = reached_below flat (calm p.cycle) l p.bit ready.range (((reached.reached p.cycle is.cycle p.bit is.bit).1 l).0 h)
       is.bit
 
   pair_at : ℕ → Probe
@@ -198,7 +199,7 @@ pub seen_inside : (flat : Flat) (setup : Setup) (cycles : ℕ) → IsInRange fla
     → (seen_row : ℕ → Row) (probes : List Probe) → ((p : Probe) → Contains probes p → IsProbe flat setup cycles p)
     → (u : Probe) → IsSeen seen_row reach probes u → u.bit < flat.bits
 seen_inside flat setup cycles range row calm reach reached seen_row probes each u s =
-    reached_inside flat (calm s.probe.cycle) u.bit s.probe.bit range
+    reached_below flat (calm s.probe.cycle) u.bit s.probe.bit range
     (((reached.reached s.probe.cycle (each s.probe s.listed).cycle s.probe.bit (each s.probe s.listed).bit).1 u.bit).0 s.shows.reached)
     (each s.probe s.listed).bit
 

@@ -8,7 +8,7 @@ use Rattle.coco_model.specs.Netlist.{HasNoRepeat}
 use Rattle.coco_model.specs.Labels.{parity}
 use Rattle.coco_model.specs.WrittenFindings.{ComesBefore, AreAscending}
 use Rattle.coco_model.proofs.Basics.{Contains-here, Contains-later, Contains-cases, Contains-none}
-use Rattle.walsh_laws.proofs.Bits.{xor-swap}
+use Rattle.coco_model.proofs.Bits.{xor-swap}
 
 -- one of two probes comes first, or they are one
 order_of : (p q : Probe) → ComesBefore p q ⊎ (ComesBefore q p ⊎ (p ≡ q))

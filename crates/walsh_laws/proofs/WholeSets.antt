@@ -11,13 +11,11 @@ use Rattle.coco_model.specs.Netlist.{HasNoRepeat}
 use Rattle.coco_model.specs.Labels.{Choice, label_bit, parity, secret_labels, share_label, share_labels, mask_labels, label_count, IsLabelTable}
 use Rattle.coco_model.specs.Findings.{Labels, IsWhole}
 use Rattle.coco_model.proofs.Basics.{Contains-here, Contains-later, Contains-cases, Contains-none}
+use Rattle.coco_model.proofs.ListedLabels.{listed, listed-none, listed-some}
+use Rattle.model_laws.proofs.Apart.{apart_parts}
 use Rattle.model_laws.proofs.Lists.{IsImage, image_of_map, IsJoined, joined_of_flat_map, contains_or_not}
-use Rattle.walsh_laws.proofs.Bits.{xor-false, and-false, and-true}
-use Rattle.walsh_laws.proofs.Parity.{differs, same, label_parity, label_parity-xor, label_parity_none, label_parity_one}
-
--- the labels in a list, by their number
-abbrev pub listed : List ℕ → Labels
-listed ls l = parity (map (λ k. nat_eq k l) ls)
+use Rattle.coco_model.proofs.Bits.{xor-false, and-false, and-true}
+use Rattle.walsh_laws.proofs.Parity.{label_parity, label_parity-xor, label_parity_none, label_parity_one}
 
 -- the labels in the lists of a subset
 abbrev pub labels_of : Subset → List (List ℕ) → Labels
@@ -35,23 +33,7 @@ label_parity_of (true ∷ ss) (ls ∷ lists) c = label_parity-xor (listed ls) (l
     ∙ rw (label_parity_listed ls c, label_parity_of ss lists c) refl
 label_parity_of (false ∷ ss) (ls ∷ lists) c = label_parity_of ss lists c
 
--- which labels are listed
-listed-none : (ls : List ℕ) (l : ℕ) → (Contains ls l → ⊥) → listed ls l ≡ false
-listed-none [] l n = refl
-listed-none (k ∷ ls) l n = rw (
-  differs k l (λ e. n (subst (Contains (k ∷ ls)) e (Contains-here k ls))),
-  listed-none ls l
-      (λ h. n (Contains-later k l ls h)),
-) refl
-
-listed-some : (ls : List ℕ) (l : ℕ) → HasNoRepeat ls → Contains ls l → listed ls l ≡ true
-listed-some [] l once h = absurd (Contains-none l h)
-listed-some (k ∷ ls) l once h = go (Contains-cases k l ls h) (listed-some ls l once.1)
-  where
-    go : (k ≡ l) ⊎ Contains ls l → (Contains ls l → listed ls l ≡ true) → xor (nat_eq k l) (listed ls l) ≡ true
-    go (inl e) rest = rw (sym e, same k, listed-none ls k once.0) refl
-    go (inr i) rest = rw (differs k l (λ e. once.0 (subst (Contains ls) (sym e) i)), rest i) refl
-
+-- a label that is in the set is listed
 listed-true : (ls : List ℕ) (l : ℕ) → listed ls l ≡ true → Contains ls l
 listed-true ls l e = go (contains_or_not ls l)
   where
@@ -64,29 +46,10 @@ abbrev pub AreApart : List (List ℕ) → Type 0
 AreApart [] = Unit {0}
 AreApart (ls ∷ lists) = HasNoRepeat ls × ((l : ℕ) → Contains ls l → Contains (flat_map (λ (ks : List ℕ). ks) lists) l → ⊥) × AreApart lists
 
-HasNoRepeat-left : (xs ys : List ℕ) → HasNoRepeat (xs ++ ys) → HasNoRepeat xs
-HasNoRepeat-left [] ys h = tt
-HasNoRepeat-left (x ∷ xs) ys h = (λ i. h.0 (Contains-append_left xs ys x i), HasNoRepeat-left xs ys h.1)
-
-HasNoRepeat-right : (xs ys : List ℕ) → HasNoRepeat (xs ++ ys) → HasNoRepeat ys
-HasNoRepeat-right [] ys h = h
-HasNoRepeat-right (x ∷ xs) ys h = HasNoRepeat-right xs ys h.1
-
-HasNoRepeat-apart : (xs ys : List ℕ) → HasNoRepeat (xs ++ ys) → (l : ℕ) → Contains xs l → Contains ys l → ⊥
-HasNoRepeat-apart [] ys h l i j = Contains-none l i
-HasNoRepeat-apart (x ∷ xs) ys h l i j = go (Contains-cases x l xs i) (λ k. HasNoRepeat-apart xs ys h.1 l k j)
-  where
-    go : (x ≡ l) ⊎ Contains xs l → (Contains xs l → ⊥) → ⊥
-    go (inl e) rest = h.0 (subst (Contains (xs ++ ys)) (sym e) (Contains-append_right xs ys l j))
-    go (inr k) rest = rest k
-
 apart_from_once : (lists : List (List ℕ)) → HasNoRepeat (flat_map (λ (ls : List ℕ). ls) lists) → AreApart lists
 apart_from_once [] h = tt
-apart_from_once (ls ∷ lists) h = (
-  HasNoRepeat-left ls (flat_map (λ (ks : List ℕ). ks) lists) h,
-  HasNoRepeat-apart ls (flat_map (λ (ks : List ℕ). ks) lists) h,
-  apart_from_once lists (HasNoRepeat-right ls (flat_map (λ (ks : List ℕ). ks) lists) h),
-)
+apart_from_once (ls ∷ lists) h =
+    let parts = apart_parts ls (flat_map (λ (ks : List ℕ). ks) lists) h in (parts.left, parts.apart, apart_from_once lists parts.right)
 
 -- a label of a list
 list_of_lists : (lists : List (List ℕ)) (ls : List ℕ) (l : ℕ) → Contains lists ls → Contains ls l
@@ -182,7 +145,7 @@ some_in_range f a (suc n) h = (f a, Contains-here (f a) (map f (range_with_len (
 -- the secret bits of a table have labels, apart from each other
 pub secrets_apart : (table : LabelTable) → IsLabelTable table → AreApart (secret_labels table.secrets)
 secrets_apart table is = apart_from_once (secret_labels table.secrets)
-    (HasNoRepeat-left (flat_map (λ (ls : List ℕ). ls) (secret_labels table.secrets)) (flat_map mask_labels table.masks) is.once)
+    (apart_parts (flat_map (λ (ls : List ℕ). ls) (secret_labels table.secrets)) (flat_map mask_labels table.masks) is.once).left
 
 secrets_full : (table : LabelTable) → IsLabelTable table → (ls : List ℕ) → Contains (secret_labels table.secrets) ls
     → (l : ℕ) × Contains ls l

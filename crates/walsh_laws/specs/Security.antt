@@ -12,9 +12,10 @@ use Rattle.coco_model.specs.Known.{Row, IsKnown}
 use Rattle.coco_model.specs.Controls.{AreControlsKnown}
 use Rattle.coco_model.specs.Reach.{Reach, IsReach}
 use Rattle.coco_model.specs.Roots.{Root, IsRooted}
-use Rattle.coco_model.specs.Secure.{IsProbe, IsSecure, count_showing}
+use Rattle.coco_model.specs.Secure.{IsProbe, IsSecure, IsWidelySecure, count_showing}
 use Rattle.coco_model.specs.SecureInTime.{IsSecureInTime}
 use Rattle.coco_model.specs.Findings.{Labels, IsSelection, IsWhole, IsSeen, set_of_pairs, HasFinding}
+use Rattle.model_laws.specs.Laws.{IsChecked}
 use Rattle.walsh_laws.specs.Sums.{parity_below}
 
 -- a netlist without loops and with one driver for each bit, a setup that is bound to it, and what is known of the run, in which every
@@ -92,5 +93,11 @@ NoFindingLaw =
 unfoldable pub InTimeLaw : Type 0
 InTimeLaw =
     (flat : Flat) (setup : Setup) (cycles : ℕ) (rank : ℕ → ℕ) (row : ℕ → Row) (word : ℕ → ℕ → Row)
-    → IsSimulated flat setup cycles rank row word
+    → IsChecked flat setup cycles rank row word → HasOneDriver flat → IsInRange flat
     → (d : ℕ) → IsSecure flat setup cycles d → IsSecureInTime flat setup cycles d
+
+-- a run that is secure for the coarser reach is secure: where calm bits block, probes see no more
+unfoldable pub NarrowLaw : Type 0
+NarrowLaw =
+    (flat : Flat) (setup : Setup) (cycles : ℕ) (rank : ℕ → ℕ) → IsRanked flat rank → IsInRange flat
+    → (d : ℕ) → IsWidelySecure flat setup cycles d → IsSecure flat setup cycles d

@@ -2,3 +2,4 @@ pub mod Flips
 pub mod Turned
 pub mod Agree
 pub mod Secrecy
+pub mod FlopRuns

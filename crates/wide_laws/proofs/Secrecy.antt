@@ -8,34 +8,20 @@ use Rattle.coco_base.specs.declared.labels.SecretPlan.{SecretPlan}
 use Rattle.coco_base.specs.declared.labels.LabelTable.{LabelTable}
 use Rattle.coco_base.specs.declared.setup.Setup.{Setup}
 use Rattle.coco_base.specs.declared.finding.Probe.{Probe}
-use Rattle.coco_model.specs.Netlist.{Valuation}
-use Rattle.coco_model.specs.Labels.{Choice, choices, label_count, share_label, share_labels, secret_labels, mask_labels, secret_bits, same_bits, IsLabelTable}
+use Rattle.coco_model.specs.Labels.{Choice, label_count, share_label, share_labels, secret_labels, mask_labels, secret_bits, same_bits, IsLabelTable}
 use Rattle.coco_model.specs.Run.{before}
-use Rattle.coco_model.specs.Reach.{Reach}
 use Rattle.coco_model.specs.Secure.{IsProbe, observation, IsSecureFor, IsWidelySecure}
-use Rattle.coco_model.proofs.Basics.{Contains-here, Contains-later, Contains-cases, Contains-none}
+use Rattle.coco_model.proofs.Basics.{Contains-here, Contains-cases, Contains-none}
+use Rattle.coco_model.proofs.Keepers.{before_below}
+use Rattle.coco_model.proofs.Choices.{count-cong, filtered_twice}
+use Rattle.model_laws.proofs.Apart.{apart_parts}
 use Rattle.model_laws.proofs.Lists.{Contains-map, image_of_map, joined_of_flat_map}
+use Rattle.walsh_laws.proofs.Determined.{agreed_observed}
 use Rattle.wide_laws.specs.WideCones.{IsInWideProbeCone, HidesSecrets}
 use Rattle.wide_laws.specs.Laws.{HiddenSharesLaw}
-use Rattle.wide_laws.proofs.Flips.{flips, tally-cong, tally-filter, tally-flips, bit-flips}
-use Rattle.wide_laws.proofs.Turned.{all_of, HasGood, IsFlipping, flipping, turned_secrets, once-left}
+use Rattle.wide_laws.proofs.Flips.{flips, count-flips, bit-flips}
+use Rattle.wide_laws.proofs.Turned.{all_of, HasGood, IsFlipping, flipping, turned_secrets}
 use Rattle.wide_laws.proofs.Agree.{same_runs}
-
-flat_map-cong : {X Y : Type 0} (f g : X → List Y) (xs : List X) → ((x : X) → Contains xs x → f x ≡ g x) → flat_map f xs ≡ flat_map g xs
-flat_map-cong f g [] same = refl
-flat_map-cong f g (x ∷ xs) same = rw (same x (Contains-here x xs), flat_map-cong f g xs (λ y i. same y (Contains-later x y xs i))) refl
-
--- probes observe the same in valuations that agree on the leaves that they show
-same_observation : (reach : Reach) (v w : ℕ → Valuation) (probes : List Probe)
-    → ((p : Probe) → Contains probes p → (leaf : ℕ) → Contains (reach p.cycle p.bit) leaf → (v (before p.cycle) leaf ≡ w (before p.cycle) leaf) × (v p.cycle leaf ≡ w p.cycle leaf))
-    → observation reach v probes ≡ observation reach w probes
-same_observation reach v w probes same =
-    flat_map-cong _ _ probes (λ p i. flat_map-cong (λ leaf. v (before p.cycle) leaf ∷ v p.cycle leaf ∷ []) (λ leaf. w (before p.cycle) leaf ∷ w p.cycle leaf ∷ [])
-    (reach p.cycle p.bit) (λ leaf j. let s = same p i leaf j in rw (s.0, s.1) refl))
-
-before_below : (t cycles : ℕ) → t < cycles → before t < cycles
-before_below zero cycles h = h
-before_below (suc t) cycles h = omega arith
 
 first_of_range : (n : ℕ) → 0 < n → Contains (range_with_len 0 n) 0
 first_of_range zero h = absurd (omega arith)
@@ -78,16 +64,16 @@ absent_share flat setup cycles good hides (p ∷ q ∷ probes) most each shares 
 pub hidden_shares : HiddenSharesLaw
 unfolding IsWidelySecure IsSecureFor
 hidden_shares flat rank setup cycles run hides reach wide runs memory are probes most each secrets others n m seen =
-    tally-filter shown (has secrets) (choices count)
-    ∙ tally-cong _ _ (λ c. sym (turned c)) (choices count)
-    ∙ sym (tally-flips count turn.labels in_range (λ c. has others c && shown c))
-    ∙ sym (tally-filter shown (has others) (choices count))
+    filtered_twice label_number shown (has secrets)
+    ∙ count-cong label_number _ _ (λ c as_long. sym (turned c))
+    ∙ sym (count-flips label_number turn.labels in_range (λ c. has others c && shown c))
+    ∙ sym (filtered_twice label_number shown (has others))
   where
     table : LabelTable
     table = setup.table
 
-    count : ℕ
-    count = label_count table cycles
+    label_number : ℕ
+    label_number = label_count table cycles
 
     lists : List (List ℕ)
     lists = secret_labels table.secrets
@@ -100,10 +86,10 @@ hidden_shares flat rank setup cycles run hides reach wide runs memory are probes
 
     turn : IsFlipping (IsAbsent flat setup probes) lists secrets others
     turn = flipping (IsAbsent flat setup probes) lists secrets others n m
-        (once-left (all_of lists) (flat_map mask_labels table.masks) run.table.once)
+        (apart_parts (all_of lists) (flat_map mask_labels table.masks) run.table.once).left
         (absent_share flat setup cycles run.table hides probes most each)
 
-    in_range : (l : ℕ) → Contains turn.labels l → l < count
+    in_range : (l : ℕ) → Contains turn.labels l → l < label_number
     in_range l i = let d = (run.table.each l).0 (Contains-append_left (all_of lists) (flat_map mask_labels table.masks) l (turn.listed l i)) in omega arith
 
     same_leaf : (c : Choice) (p : Probe) → Contains probes p → (leaf t : ℕ) → Contains (reach p.cycle p.bit) leaf → t < cycles
@@ -120,7 +106,7 @@ hidden_shares flat rank setup cycles run hides reach wide runs memory are probes
         })))
 
     same_shown : (c : Choice) → shown (flips turn.labels c) ≡ shown c
-    same_shown c = ap (λ o. same_bits o seen) (same_observation reach (runs (flips turn.labels c)) (runs c) probes
+    same_shown c = ap (λ o. same_bits o seen) (agreed_observed reach (runs (flips turn.labels c)) (runs c) probes
         (λ p listed leaf reached. (
           same_leaf c p listed leaf (before p.cycle) reached (before_below p.cycle cycles (each p listed).cycle) (inr refl),
           same_leaf c p listed leaf p.cycle reached (each p listed).cycle (inl refl),

@@ -1,93 +1,35 @@
 -- What flips do to secret bits, where one share of each secret bit that has to change is turned.
-use Rattle.std.proofs.Common.{◌≡◌, ◌≢◌, ℕ, Bool, true, false, not, ◌⊎◌, inl, inr, List, [], ◌∷◌, ◌++◌, map, length, refl, sym, ◌∙◌, ap, subst, arith, nat_eq}
+use Rattle.std.proofs.Common.{◌≡◌, ℕ, Bool, true, false, ◌⊎◌, inl, inr, List, [], ◌∷◌, ◌++◌, map, length, refl, sym, ◌∙◌, ap, subst, arith, nat_eq}
 use Rattle.std.specs.Prelude.{Contains, flat_map}
-use Rattle.std.proofs.lemmas.Bool.Decides.{nat_tests}
 use Rattle.std.proofs.lemmas.List.Elements.{Contains-append_left, Contains-append_right}
 use Rattle.coco_model.specs.Cells.{xor}
 use Rattle.coco_model.specs.Netlist.{HasNoRepeat}
 use Rattle.coco_model.specs.Labels.{Choice, label_bit, parity, same_bits}
+use Rattle.coco_model.proofs.Bits.{xor-four, xor-assoc}
+use Rattle.coco_model.proofs.ListedLabels.{listed, listed-none, listed-some}
 use Rattle.coco_model.proofs.Basics.{Contains-here, Contains-later, Contains-cases, Contains-none}
+use Rattle.model_laws.proofs.Apart.{AreApart, apart_parts}
 use Rattle.wide_laws.proofs.Flips.{flip, flips, bit-flip}
 
-not-not : (b : Bool) → not (not b) ≡ b
-not-not true = refl
-not-not false = refl
-
-xor-assoc : (a b c : Bool) → xor (xor a b) c ≡ xor a (xor b c)
-xor-assoc true true c = sym (not-not c)
-xor-assoc true false c = refl
-xor-assoc false b c = refl
-
-xor-swap : (a b c d : Bool) → xor (xor a b) (xor c d) ≡ xor (xor a c) (xor b d)
-xor-swap true true true d = refl
-xor-swap true true false d = sym (not-not d)
-xor-swap true false true d = not-not d
-xor-swap true false false d = refl
-xor-swap false true true d = refl
-xor-swap false true false d = refl
-xor-swap false false c d = refl
-
--- the parity of how often a label stands in a list
-abbrev pub odd_in : List ℕ → ℕ → Bool
-odd_in ls k = parity (map (λ l. nat_eq k l) ls)
-
+-- whether the labels of a list are turned an odd number of times
 abbrev pub odd_of : List ℕ → List ℕ → Bool
-odd_of ls ks = parity (map (odd_in ls) ks)
+odd_of ls ks = parity (map (listed ls) ks)
 
 -- the exclusive or of labels' bits after one flip, and after several
-parity-flip : (k : ℕ) (c : Choice) (ls : List ℕ) → parity (map (label_bit (flip k c)) ls) ≡ xor (odd_in ls k) (parity (map (label_bit c) ls))
+parity-flip : (k : ℕ) (c : Choice) (ls : List ℕ) → parity (map (label_bit (flip k c)) ls) ≡ xor (listed ls k) (parity (map (label_bit c) ls))
 parity-flip k c [] = refl
 parity-flip k c (l ∷ ls) =
-    rw (bit-flip k c l, parity-flip k c ls) (xor-swap (nat_eq k l) (label_bit c l) (odd_in ls k) (parity (map (label_bit c) ls)))
+    rw (bit-flip k c l, parity-flip k c ls) (xor-four (nat_eq l k) (label_bit c l) (listed ls k) (parity (map (label_bit c) ls)))
 
 pub parity-flips : (ks : List ℕ) (c : Choice) (ls : List ℕ) → parity (map (label_bit (flips ks c)) ls) ≡ xor (odd_of ls ks) (parity (map (label_bit c) ls))
 parity-flips [] c ls = refl
 parity-flips (k ∷ ks) c ls =
-    parity-flip k (flips ks c) ls ∙ ap (xor (odd_in ls k)) (parity-flips ks c ls)
-    ∙ sym (xor-assoc (odd_in ls k) (odd_of ls ks) (parity (map (label_bit c) ls)))
-
-differs : (k l : ℕ) → k ≢ l → nat_eq k l ≡ false
-differs k l n = go (nat_eq k l) refl
-  where
-    go : (b : Bool) → nat_eq k l ≡ b → nat_eq k l ≡ false
-    go false e = e
-    go true e = absurd (n (grind (arith, nat_tests, e)))
-
--- a label that is not in a list, or in it once
-pub absent_odd : (ls : List ℕ) (k : ℕ) → (Contains ls k → ⊥) → odd_in ls k ≡ false
-absent_odd [] k h = refl
-absent_odd (l ∷ ls) k h =
-    rw (differs k l (λ e. h (subst (Contains (l ∷ ls)) (sym e) (Contains-here l ls))), absent_odd ls k (λ i. h (Contains-later l k ls i))) refl
-
-pub once_odd : (ls : List ℕ) (k : ℕ) → HasNoRepeat ls → Contains ls k → odd_in ls k ≡ true
-once_odd [] k once h = absurd (Contains-none k h)
-once_odd (l ∷ ls) k once h = go (Contains-cases l k ls h) (λ i. once_odd ls k once.1 i)
-  where
-    go : (l ≡ k) ⊎ Contains ls k → (Contains ls k → odd_in ls k ≡ true) → xor (nat_eq k l) (odd_in ls k) ≡ true
-    go (inl e) rest =
-        let same : nat_eq k l ≡ true = grind (arith, nat_tests, e) in
-        rw (same, absent_odd ls k (λ i. once.0 (subst (Contains ls) (sym e) i))) refl
-    go (inr i) rest = rw (differs k l (λ e. once.0 (subst (Contains ls) e i)), rest i) refl
+    parity-flip k (flips ks c) ls ∙ ap (xor (listed ls k)) (parity-flips ks c ls)
+    ∙ sym (xor-assoc (listed ls k) (odd_of ls ks) (parity (map (label_bit c) ls)))
 
 -- all members of lists of labels
 abbrev pub all_of : List (List ℕ) → List ℕ
 all_of lists = flat_map (λ (ls : List ℕ). ls) lists
-
-pub once-left : (xs ys : List ℕ) → HasNoRepeat (xs ++ ys) → HasNoRepeat xs
-once-left [] ys h = tt
-once-left (x ∷ xs) ys h = (λ i. h.0 (Contains-append_left xs ys x i), once-left xs ys h.1)
-
-once-right : (xs ys : List ℕ) → HasNoRepeat (xs ++ ys) → HasNoRepeat ys
-once-right [] ys h = h
-once-right (x ∷ xs) ys h = once-right xs ys h.1
-
-once-apart : (xs ys : List ℕ) (k : ℕ) → HasNoRepeat (xs ++ ys) → Contains xs k → Contains ys k → ⊥
-once-apart [] ys k h i j = Contains-none k i
-once-apart (x ∷ xs) ys k h i j = go (Contains-cases x k xs i) (λ m. once-apart xs ys k h.1 m j)
-  where
-    go : (x ≡ k) ⊎ Contains xs k → (Contains xs k → ⊥) → ⊥
-    go (inl e) rest = h.0 (subst (Contains (xs ++ ys)) (sym e) (Contains-append_right xs ys k j))
-    go (inr m) rest = rest m
 
 -- the flips turn each secret bit whose two values differ, and no other
 abbrev pub Turns : List (List ℕ) → List Bool → List Bool → List ℕ → Type 0
@@ -102,12 +44,12 @@ turns-more [] s r k ks h t = tt
 turns-more (ls ∷ lists) [] r k ks h t = t
 turns-more (ls ∷ lists) (a ∷ s) [] k ks h t = t
 turns-more (ls ∷ lists) (a ∷ s) (b ∷ r) k ks h t =
-    (rw (absent_odd ls k (λ i. h (Contains-append_left ls (all_of lists) k i))) t.0, turns-more lists s r k ks (λ i. h (Contains-append_right ls (all_of lists) k i)) t.1)
+    (rw (listed-none ls k (λ i. h (Contains-append_left ls (all_of lists) k i))) t.0, turns-more lists s r k ks (λ i. h (Contains-append_right ls (all_of lists) k i)) t.1)
 
 all_absent : (ls ks : List ℕ) → ((k : ℕ) → Contains ks k → Contains ls k → ⊥) → odd_of ls ks ≡ false
 all_absent ls [] h = refl
 all_absent ls (k ∷ ks) h =
-    rw (absent_odd ls k (h k (Contains-here k ks)), all_absent ls ks (λ m i. h m (Contains-later k m ks i))) refl
+    rw (listed-none ls k (h k (Contains-here k ks)), all_absent ls ks (λ m i. h m (Contains-later k m ks i))) refl
 
 -- labels to flip: each good and in one of the lists
 pub record IsFlipping (good : ℕ → Type 0) (lists : List (List ℕ)) (s r : List Bool) : Type 0 where
@@ -129,10 +71,13 @@ flipping good (ls ∷ lists) [] r n m once pick = absurd (omega arith)
 flipping good (ls ∷ lists) (a ∷ s) [] n m once pick = absurd (omega arith)
 flipping good (ls ∷ lists) (a ∷ s) (b ∷ r) n m once pick =
     join (pick ls (Contains-here ls lists)) a b
-    (flipping good lists s r (omega arith) (omega arith) (once-right ls (all_of lists) once) (λ xs i. pick xs (Contains-later ls xs lists i)))
+    (flipping good lists s r (omega arith) (omega arith) parts.right (λ xs i. pick xs (Contains-later ls xs lists i)))
   where
+    parts : AreApart ls (all_of lists)
+    parts = apart_parts ls (all_of lists) once
+
     apart : (f : IsFlipping good lists s r) (k : ℕ) → Contains f.labels k → Contains ls k → ⊥
-    apart f k i j = once-apart ls (all_of lists) k once j (f.listed k i)
+    apart f k i j = parts.apart k j (f.listed k i)
 
     keep : (f : IsFlipping good lists s r) (a b : Bool) → xor a b ≡ false → IsFlipping good (ls ∷ lists) (a ∷ s) (b ∷ r)
     keep f a b e = record {
@@ -148,8 +93,8 @@ flipping good (ls ∷ lists) (a ∷ s) (b ∷ r) n m once pick =
       good_each = λ k i. good_case k (Contains-cases g.label k f.labels i);
       listed = λ k i. listed_case k (Contains-cases g.label k f.labels i);
       turns = (
-        rw (once_odd ls g.label (once-left ls (all_of lists) once) g.member, all_absent ls f.labels (apart f)) (sym e),
-        turns-more lists s r g.label f.labels (λ j. once-apart ls (all_of lists) g.label once g.member j) f.turns,
+        rw (listed-some ls g.label parts.left g.member, all_absent ls f.labels (apart f)) (sym e),
+        turns-more lists s r g.label f.labels (λ j. parts.apart g.label g.member j) f.turns,
       );
     }
       where

@@ -1,12 +1,15 @@
--- The law of structural cones that lack a share of every secret bit.
-use Rattle.std.specs.Prelude.{◌≡◌, ℕ, []}
+-- The laws of structural cones that lack a share of every secret bit.
+use Rattle.std.specs.Prelude.{◌≡◌, ℕ, [], Contains, None}
 use Rattle.coco_base.specs.declared.netlist.Flat.{Flat}
+use Rattle.coco_base.specs.declared.netlist.FlatFlop.{FlatFlop}
 use Rattle.coco_base.specs.declared.setup.Setup.{Setup}
 use Rattle.coco_base.specs.declared.finding.Probe.{Probe}
-use Rattle.coco_model.specs.Netlist.{IsRanked}
+use Rattle.coco_model.specs.Netlist.{IsRanked, HasOneDriver, IsInRange}
 use Rattle.coco_model.specs.Labels.{IsLabelTable}
 use Rattle.coco_model.specs.Carried.{IsBound}
-use Rattle.coco_model.specs.Secure.{IsProbe, IsWidelySecure}
+use Rattle.coco_model.specs.Meaning.{HasMeaning}
+use Rattle.coco_model.specs.Secure.{IsProbe, IsSecure, IsWidelySecure}
+use Rattle.coco_model.specs.SecureInTime.{IsSecureInTime}
 use Rattle.wide_laws.specs.WideCones.{HidesSecrets}
 
 -- a netlist without loops, and a setup that binds its clock alone: all other leaves are flops
@@ -23,3 +26,26 @@ abbrev pub HiddenSharesLaw : Type 0
 HiddenSharesLaw =
     (flat : Flat) (rank : ℕ → ℕ) (setup : Setup) (cycles : ℕ) → IsFlopRun flat rank setup →
     ((probe : Probe) → IsProbe flat setup cycles probe → HidesSecrets flat setup probe) → IsWidelySecure flat setup cycles 1
+
+-- nothing of a run has to be known: it has no program counter and no controls, and no flop has a reset
+pub record HasNoControls (flat : Flat) (setup : Setup) : Type 0 where
+  pub no_pc : setup.pc ≡ []
+  pub no_controls : setup.controls ≡ []
+  pub no_resets : (f : FlatFlop) → Contains flat.flops f → f.reset ≡ None
+
+-- runs and reaches exist, and at most d probes see the same whatever the secrets are: the old and new values of all
+-- that they reach by structure, those of what they reach where calm bits block, and the waveforms of their bits under
+-- every order of gate events
+pub record IsSecureThroughout (flat : Flat) (setup : Setup) (cycles d : ℕ) : Type 0 where
+  pub meaning : HasMeaning flat setup cycles
+  pub wide : IsWidelySecure flat setup cycles d
+  pub narrow : IsSecure flat setup cycles d
+  pub in_time : IsSecureInTime flat setup cycles d
+
+-- where each probe's cone lacks some share of every secret bit, single probes see the same whatever the secrets are,
+-- under every order of gate events
+abbrev pub HiddenInTimeLaw : Type 0
+HiddenInTimeLaw =
+    (flat : Flat) (rank : ℕ → ℕ) (setup : Setup) (cycles : ℕ) → IsFlopRun flat rank setup → HasOneDriver flat → IsInRange flat →
+    HasNoControls flat setup →
+    ((probe : Probe) → IsProbe flat setup cycles probe → HidesSecrets flat setup probe) → IsSecureThroughout flat setup cycles 1

@@ -1,5 +1,5 @@
 use Rattle.coco_model.specs.Cells.{output_of}
-use Rattle.cell_table.proofs.LawLemmas.{live_decide, live_input}
+use Rattle.coco_model.proofs.LivePlaces.{live_decide, live_input}
 use Rattle.cell_table.proofs.laws.live_decide_law.Goals as goal
 
 pub returns : goal.returns

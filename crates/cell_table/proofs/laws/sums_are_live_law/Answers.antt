@@ -1,5 +1,6 @@
 use Rattle.coco_model.specs.Cells.{output_of}
-use Rattle.cell_table.proofs.LawLemmas.{sum_lives, live_input}
+use Rattle.coco_model.proofs.LivePlaces.{live_input}
+use Rattle.cell_table.proofs.LawLemmas.{sum_lives}
 use Rattle.cell_table.proofs.laws.sums_are_live_law.Goals as goal
 
 pub returns : goal.returns

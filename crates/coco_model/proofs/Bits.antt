@@ -1,7 +1,14 @@
--- Exclusive or and signs.
-use Rattle.std.proofs.Common.{◌≡◌, Bool, true, false, ◌&&◌, not, refl, sym, arith, ℤ, pos, neg_ℤ, ◌+ℤ◌}
+-- Bits: whether two are the same, exclusive or, and signs.
+use Rattle.std.proofs.Common.{◌≡◌, ◌≢◌, ◌⊎◌, inl, inr, Bool, true, false, ◌&&◌, not, refl, sym, arith, ℤ, pos, neg_ℤ, ◌+ℤ◌}
 use Rattle.std.proofs.lemmas.Int.{ints}
+use Rattle.std.proofs.lemmas.Bool.{true≢false, false≢true}
 use Rattle.coco_model.specs.Cells.{xor, signed}
+
+pub same_or_not : (a b : Bool) → (a ≡ b) ⊎ (a ≢ b)
+same_or_not true true = inl refl
+same_or_not true false = inr true≢false
+same_or_not false true = inr false≢true
+same_or_not false false = inl refl
 
 pub xor-false : (a : Bool) → xor a false ≡ a
 xor-false true = refl

@@ -1,0 +1,95 @@
+ghost use Rattle.std.specs.Prelude.{◌≤◌};
+
+use crate::formula::{Formula, pigeonholes, random};
+use crate::solving::all_below;
+use clause_solver::{Outcome, solve};
+use clause_store::Store;
+use coco_base::NoMemory;
+use derivation_check::{Verdict, check};
+use pickers::{FirstOpen, LastBumped, MostBumped, Picker};
+use std::alloc::Global;
+use std::process::Abort;
+use std::test::Fail;
+
+/// More conflicts than these formulas need.
+const STEPS: u64 = 1_000_000;
+
+/// Whether each clause has a literal that is true.
+fn meets(store: &Store, values: &[bool]) -> bool {
+    'clauses: for id in 0..store.count() {
+        let met = store
+            .get(id)
+            .iter()
+            .any(|lit| values.get(lit.var as usize).copied() == Some(lit.positive));
+        if !met {
+            return false;
+        }
+    }
+    true
+}
+
+/// Solves, and shows the answer right: values meet every clause, or the lines are a derivation of the empty clause. Tells
+/// whether the clauses can be met.
+fn assert_right(
+    rt: &impl Abort,
+    alloc: Global,
+    formula: &Formula,
+    picker: Box<dyn Picker>,
+) -> Result<bool, NoMemory> {
+    let in_range = formula.vars <= 1 << 30 && all_below(&formula.store, formula.vars);
+    assert!(rt; in_range);
+    match solve(alloc, &formula.store, formula.vars, STEPS, picker)? {
+        Outcome::Satisfied(values) => {
+            let met = meets(&formula.store, values.as_slice());
+            assert!(rt; met);
+            Ok(true)
+        }
+        Outcome::Derived(derivation) => {
+            let countable = derivation.lines.len() < 1 << 32;
+            assert!(rt; countable);
+            let verdict = check(alloc, &formula.store, &derivation)?;
+            assert_eq!(rt; verdict, Verdict::Empty);
+            Ok(false)
+        }
+        Outcome::Spent(_) => panic!(rt; "too few steps"),
+    }
+}
+
+/// Asks with each picker, and shows that all say the same.
+fn assert_agreed(rt: &impl Abort, alloc: Global, formula: &Formula) -> Result<bool, NoMemory> {
+    let vars = formula.vars;
+    let can_be_met = assert_right(rt, alloc, formula, Box::new(alloc, FirstOpen)?)?;
+    let most = Box::new(alloc, MostBumped::new(alloc, vars)?)?;
+    assert_eq!(rt; assert_right(rt, alloc, formula, most)?, can_be_met);
+    let last = Box::new(alloc, LastBumped::new(alloc, vars)?)?;
+    assert_eq!(rt; assert_right(rt, alloc, formula, last)?, can_be_met);
+    Ok(can_be_met)
+}
+
+#[test]
+fn answers_on_random_clauses_are_right(rt: HostRuntime) -> Result<(), Fail> {
+    let mut met = 0u32;
+    let mut refuted = 0u32;
+    for vars in [10, 15, 20, 25, 30] {
+        for seed in 1..9 {
+            let formula = random(rt.alloc(), vars, seed)?;
+            if assert_agreed(&rt, rt.alloc(), &formula)? {
+                met = met.saturating_add(1);
+            } else {
+                refuted = refuted.saturating_add(1);
+            }
+        }
+    }
+    assert!(rt; met > 0);
+    assert!(rt; refuted > 0);
+    Ok(())
+}
+
+#[test]
+fn pigeonholes_are_refuted(rt: HostRuntime) -> Result<(), Fail> {
+    for holes in 1..5 {
+        let formula = pigeonholes(rt.alloc(), holes)?;
+        assert!(rt; !assert_agreed(&rt, rt.alloc(), &formula)?);
+    }
+    Ok(())
+}
