@@ -17,10 +17,8 @@ const STEPS: u64 = 1_000_000;
 /// Whether each clause has a literal that is true.
 fn meets(store: &Store, values: &[bool]) -> bool {
     'clauses: for id in 0..store.count() {
-        let met = store
-            .get(id)
-            .iter()
-            .any(|lit| values.get(lit.var as usize).copied() == Some(lit.positive));
+        let met = store.get(id).iter().any(|lit| values.get(lit.var as usize).copied()
+            == Some(lit.positive));
         if !met {
             return false;
         }
