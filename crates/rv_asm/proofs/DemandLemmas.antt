@@ -1,7 +1,6 @@
 -- Words of expressions, one after the other.
-use Rattle.std.proofs.Common.{◌≡◌, ℕ, ◌+◌, ◌<◌, List, ◌∷◌, ◌++◌, length, drop, get_or, Result, Ok, drop-cons, add-one}
+use Rattle.std.proofs.Common.{ℕ, List, ◌++◌, Result, Ok}
 use Rattle.rv_asm.specs.declared.cause.Cause.{Cause}
-use Rattle.rv_asm.specs.declared.expression.Expr.{Expr}
 use Rattle.rv_asm.specs.Causes.{◌>>=◌}
 
 -- words that were found, and then more

@@ -1,12 +1,11 @@
 -- Layouts, one line after the other.
-use Rattle.std.proofs.Common.{◌≡◌, ◌⊎◌, inl, inr, ℕ, ◌+◌, List, [], ◌∷◌, ◌++◌, length, min, Some, Ok, Err, refl, ap, sym, ◌∙◌, arith, append_assoc, append-nil, length-append}
-use Rattle.rv_asm.specs.declared.cause.Cause.{Cause}
+use Rattle.std.proofs.Common.{◌≡◌, ◌⊎◌, inl, inr, ℕ, ◌+◌, List, [], ◌∷◌, ◌++◌, length, min, Some, Ok, Err, refl, ap, sym, ◌∙◌, arith, append_assoc, length-append}
 use Rattle.rv_asm.specs.declared.fault.AsmFault.{AsmFault}
 use Rattle.rv_asm.specs.declared.fault.AsmFault.TheVariants as fault
 use Rattle.rv_asm.specs.declared.layout.Layout.{Layout}
 use Rattle.rv_asm.specs.Causes.{◌>>=◌}
 use Rattle.rv_asm.specs.Lines.{last_line, number_after}
-use Rattle.rv_asm.specs.Programs.{after_line, after_lines, AreWithin, FailsUnlessMemory, FailsWith, IsCutBy, IsFaultOf, IsOutsideAt, layout_of, start, StopsAt, StopsWith}
+use Rattle.rv_asm.specs.Programs.{after_line, after_lines, AreWithin, FailsWith, IsCutBy, IsFaultOf, layout_of, start, StopsWith}
 
 -- the lines before the rest are laid out, and n is the number of the last of them
 pub record IsLaying (all rest : List (List ℕ)) (layout : Layout) (n : ℕ) : Type 0 where

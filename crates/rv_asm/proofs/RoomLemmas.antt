@@ -1,10 +1,9 @@
 -- How many words and bytes the lines of a program fill, and that there is room for them.
-use Rattle.std.proofs.Common.{◌≡◌, ℕ, zero, suc, ◌+◌, ◌*◌, ◌≤◌, ◌<◌, min, Bool, true, false, cond, leb, List, [], ◌∷◌, ◌++◌, length, map, flat_map, take, get_or, Option, Some, None, Result, Ok, Err, IfOk, IsOk, refl, ap, sym, subst, ◌∙◌, arith, length-append, append-nil, replicate, ℤ, pos}
-use Rattle.std.specs.List.{All, sum_by}
+use Rattle.std.proofs.Common.{◌≡◌, ℕ, suc, ◌+◌, ◌*◌, ◌≤◌, min, Bool, true, false, cond, leb, List, [], ◌∷◌, ◌++◌, length, map, flat_map, take, Option, Some, None, Result, Ok, Err, IfOk, IsOk, refl, ap, sym, subst, ◌∙◌, arith, length-append, append-nil, replicate, ℤ, pos}
+use Rattle.std.specs.List.{sum_by}
 use Rattle.std.specs.Int.{to_le_bytes, w32}
 use Rattle.std.proofs.lemmas.List.{length-replicate, length-take}
 use Rattle.std.proofs.lemmas.List.Sums.{sum_by-append}
-use Rattle.std.proofs.lemmas.Grind.{common_steps}
 use Rattle.std.proofs.lemmas.Bool.Decides.{nat_tests}
 use Rattle.rv_isa.specs.declared.instruction.Instr.{Instr}
 use Rattle.rv_isa.specs.declared.instruction.Instr.TheVariants as instr
@@ -33,7 +32,7 @@ use Rattle.rv_asm.specs.Names.{Table}
 use Rattle.rv_asm.specs.Values.{high_half, low_half, low_word, value_of}
 use Rattle.rv_asm.specs.SourceLines.{line_of}
 use Rattle.rv_asm.specs.Demands.{address_words, all_words, byte_count, field_of, field_words, fit_word, is_stored, single, word_count, words_at, words_of as words_of_value}
-use Rattle.rv_asm.specs.Layouts.{address_of, after_cells, bytes_each, cells_filled, content_of, content_put, content_taken, entered, equal_named, equal_taken, has_outside, is_misplaced, line_taken, moved_in, most_cells, parts_taken, put_place, read_taken, statement_taken, Taken, used_in, with_labels, words_in}
+use Rattle.rv_asm.specs.Layouts.{address_of, after_cells, bytes_each, cells_filled, content_of, content_put, content_taken, entered, equal_named, equal_taken, has_outside, is_misplaced, line_taken, most_cells, parts_taken, put_place, read_taken, statement_taken, Taken, with_labels, words_in}
 use Rattle.rv_asm.specs.Programs.{after_line, after_lines, all_known, AreRight, data_bytes, found, HasPlaced, HasRoom, in_data, in_text, IsImageOf, layout_of, put_at, start, stored_bytes, text_lines, text_words, with_taken, words_of, words_of_bytes, words_placed}
 
 -- ---- outcomes that are right
