@@ -146,6 +146,98 @@ fn directives(rt: HostRuntime) {
     );
 }
 
+// Each instruction but `fence`, and each pseudo-instruction but `la` and `call`.
+const EVERY_INSTRUCTION: &[u8] = b"lui a0,0x12345\n\
+    auipc a1,0xfffff\n\
+    jal ra,back\n\
+    back: jalr s0,-4(t0)\n\
+    beq a0,a1,back\n\
+    bne a2,a3,back\n\
+    blt a4,a5,ahead\n\
+    bge a6,a7,ahead\n\
+    bltu s2,s3,ahead\n\
+    bgeu s4,s5,ahead\n\
+    lb t0,-1(sp)\n\
+    lh t1,2(sp)\n\
+    lw t2,2047(sp)\n\
+    lbu t3,-2048(gp)\n\
+    lhu t4,6(tp)\n\
+    sb t5,7(s6)\n\
+    sh t6,-8(s7)\n\
+    sw s8,2044(s9)\n\
+    addi s10,s11,-2048\n\
+    slti a0,a1,2047\n\
+    sltiu a0,a1,-1\n\
+    xori a0,a1,0x7f\n\
+    ori a0,a1,1\n\
+    andi a0,a1,-16\n\
+    slli a0,a1,31\n\
+    srli a0,a1,1\n\
+    srai a0,a1,17\n\
+    add a0,a1,a2\n\
+    sub a0,a1,a2\n\
+    sll a0,a1,a2\n\
+    slt a0,a1,a2\n\
+    sltu a0,a1,a2\n\
+    xor a0,a1,a2\n\
+    srl a0,a1,a2\n\
+    sra a0,a1,a2\n\
+    or a0,a1,a2\n\
+    and a0,a1,a2\n\
+    ecall\n\
+    ebreak\n\
+    ahead: nop\n\
+    mv t0,t1\n\
+    not t0,t1\n\
+    neg t0,t1\n\
+    seqz t0,t1\n\
+    snez t0,t1\n\
+    sltz t0,t1\n\
+    sgtz t0,t1\n\
+    beqz t0,ahead\n\
+    bnez t0,ahead\n\
+    blez t0,ahead\n\
+    bgez t0,ahead\n\
+    bltz t0,ahead\n\
+    bgtz t0,ahead\n\
+    bgt t0,t1,ahead\n\
+    ble t0,t1,ahead\n\
+    bgtu t0,t1,ahead\n\
+    bleu t0,t1,ahead\n\
+    j back\n\
+    jr t0\n\
+    ret\n\
+    li t0,-2048\n\
+    li t0,2048\n\
+    li t0,0x12345000\n\
+    li t0,0xdeadbeef\n\
+    .word 1,-2";
+
+// What GNU as 2.40 makes of them, called with -march=rv32i -mabi=ilp32 -mno-relax, linked at address 0.
+const EVERY_WORD: [u32; 68] = [
+    0x12345537, 0xfffff597, 0x004000ef, 0xffc28467, 0xfeb50ee3, 0xfed61ce3, 0x08f74263, 0x09185063,
+    0x07396e63, 0x075a7c63, 0xfff10283, 0x00211303, 0x7ff12383, 0x8001ce03, 0x00625e83, 0x01eb03a3,
+    0xfffb9c23, 0x7f8cae23, 0x800d8d13, 0x7ff5a513, 0xfff5b513, 0x07f5c513, 0x0015e513, 0xff05f513,
+    0x01f59513, 0x0015d513, 0x4115d513, 0x00c58533, 0x40c58533, 0x00c59533, 0x00c5a533, 0x00c5b533,
+    0x00c5c533, 0x00c5d533, 0x40c5d533, 0x00c5e533, 0x00c5f533, 0x00000073, 0x00100073, 0x00000013,
+    0x00030293, 0xfff34293, 0x406002b3, 0x00133293, 0x006032b3, 0x000322b3, 0x006022b3, 0xfe0280e3,
+    0xfc029ee3, 0xfc505ce3, 0xfc02dae3, 0xfc02c8e3, 0xfc5046e3, 0xfc5344e3, 0xfc5352e3, 0xfc5360e3,
+    0xfa537ee3, 0xf29ff06f, 0x00028067, 0x00008067, 0x80000293, 0x000012b7, 0x80028293, 0x123452b7,
+    0xdeadc2b7, 0xeef28293, 0x00000001, 0xfffffffe,
+];
+
+#[test]
+fn every_instruction_has_the_word_of_gnu_as(rt: HostRuntime) {
+    check_text(&rt, rt.alloc(), EVERY_INSTRUCTION, &EVERY_WORD);
+}
+
+#[test]
+fn ignored_directives_make_nothing(rt: HostRuntime) {
+    let program =
+        b".file \"a.s\"\n.option norvc\n.attribute arch,\"rv32i\"\n.globl a\n.global b\n.weak c\n.local d\n.type a,@function\na: nop\n.size a,.-a\n.ident \"none\"";
+    check_text(&rt, rt.alloc(), program, &[0x00000013]);
+}
+
 #[test]
 fn labels_and_lines(rt: HostRuntime) {
     let alloc = rt.alloc();
