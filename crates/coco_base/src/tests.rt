@@ -1,6 +1,8 @@
 ghost use Rattle.std.specs.Prelude.{◌≤◌};
 
-use crate::{FolderShelf, List, MemFile, MemShelf, MemSink, NoMemory, OutSink, Shelf, Sink, Text};
+use crate::{
+    FolderShelf, LabelSet, List, MemFile, MemShelf, MemSink, NoMemory, OutSink, Shelf, Sink, Text,
+};
 use std::alloc::Global;
 use std::fs;
 use std::test::Fail;
@@ -69,5 +71,13 @@ fn the_machine_is_reached_by_its_adapters(rt: HostRuntime) -> Result<(), Fail> {
     let mut sink = OutSink::new(&rt);
     assert_eq!(rt; sink.write(b""), Ok(0));
     assert_eq!(rt; sink.write(b"out\n"), Ok(4));
+    Ok(())
+}
+
+#[test]
+fn a_set_of_one_label_has_that_label_alone(rt: HostRuntime) -> Result<(), NoMemory> {
+    let set = LabelSet::of(rt.alloc(), 7)?;
+    assert!(rt; set.has(7) && !set.has(0) && !set.has(8));
+    assert!(rt; !LabelSet::empty(rt.alloc()).has(7));
     Ok(())
 }
