@@ -1,13 +1,16 @@
 -- Numbers in ascending order: their members, their length, and their places.
-use Rattle.std.proofs.Common.{◌≡◌, ℕ, suc, ◌+◌, ◌<◌, ◌≤◌, ◌⊎◌, inl, inr, List, [], ◌∷◌, length, refl, sym, ap, subst, arith}
-use Rattle.std.specs.Prelude.{Contains, fold}
+use Rattle.std.proofs.Common.{◌≡◌, ℕ, suc, ◌+◌, ◌<◌, ◌≤◌, ◌⊎◌, inl, inr, List, [], ◌∷◌, length, refl, sym, ◌∙◌, ap, subst, arith, add-one}
+use Rattle.std.specs.Prelude.{Contains, fold, slice_get, Some}
+use Rattle.std.specs.List.Sorted.{IsStrictlyIncreasing}
 use Rattle.std.specs.Ordering.{nat_cmp}
 use Rattle.std.specs.BTreeSet.{insert_key}
 use Rattle.std.proofs.lemmas.Bool.{cases_eq, cases_order, lt-ltb, le-ltb, eq-eqb, ne_eqb}
 use Rattle.coco_model.specs.Netlist.{HasNoRepeat}
 use Rattle.coco_model.proofs.Basics.{Contains-here, Contains-later, Contains-cases, Contains-none}
+use Rattle.model_laws.proofs.Ascending.{ascending_cons}
 use Rattle.model_laws.proofs.Lists.{contains_or_not}
 use Rattle.netlist_json.specs.Netlist.{ascending, place_of}
+use Rattle.netlist_facts.specs.Laws.{NumbersLaw}
 
 -- each number is below all later ones
 abbrev pub IsRising : List ℕ → Type 0
@@ -109,6 +112,7 @@ pub record AreInserted (xs ns ys : List ℕ) : Type 0 where
   pub rising : IsRising ys
   pub new : (n : ℕ) → Contains ns n → Contains ys n
   pub kept : (x : ℕ) → Contains xs x → Contains ys x
+  pub only : (y : ℕ) → Contains ys y → Contains xs y ⊎ Contains ns y
   pub longer : length ys ≤ length xs + length ns
   pub no_repeat : length ys ≡ length xs + length ns → HasNoRepeat ns × ((n : ℕ) → Contains ns n → Contains xs n → ⊥)
 
@@ -117,10 +121,19 @@ inserted_all_step xs n ns zs ys one all = record {
   rising = all.rising;
   new = λ y h. fresh y (Contains-cases n y ns h);
   kept = λ y h. all.kept y (one.kept y h);
+  only = λ y h. from y (all.only y h);
   longer = let a = all.longer in let b = one.longer in omega arith;
   no_repeat = λ e. differ e (contains_or_not xs n);
 }
   where
+    from : (y : ℕ) → Contains zs y ⊎ Contains ns y → Contains xs y ⊎ Contains (n ∷ ns) y
+    from y (inr h) = inr (Contains-later n y ns h)
+    from y (inl h) = before (one.only y h)
+      where
+        before : (n ≡ y) ⊎ Contains xs y → Contains xs y ⊎ Contains (n ∷ ns) y
+        before (inl e) = inr (subst (Contains (n ∷ ns)) e (Contains-here n ns))
+        before (inr i) = inl i
+
     fresh : (y : ℕ) → (n ≡ y) ⊎ Contains ns y → Contains ys y
     fresh y (inl e) = subst (Contains ys) e (all.kept n one.new)
     fresh y (inr h) = all.new y h
@@ -142,6 +155,7 @@ inserted_all xs [] up = record {
   rising = up;
   new = λ n h. absurd (Contains-none n h);
   kept = λ x h. h;
+  only = λ y h. inl h;
   longer = omega arith;
   no_repeat = λ e. (tt, λ n h i. Contains-none n h);
 }
@@ -155,6 +169,17 @@ ascending_rises ns = (inserted_all [] ns tt).rising
 
 pub ascending_has : (ns : List ℕ) (n : ℕ) → Contains ns n → Contains (ascending ns) n
 ascending_has ns n h = (inserted_all [] ns tt).new n h
+
+ascending_only : (ns : List ℕ) (n : ℕ) → Contains (ascending ns) n → Contains ns n
+ascending_only ns n h = listed ((inserted_all [] ns tt).only n h)
+  where
+    listed : Contains [] n ⊎ Contains ns n → Contains ns n
+    listed (inl i) = absurd (Contains-none n i)
+    listed (inr i) = i
+
+rising_increases : (xs : List ℕ) → IsRising xs → IsStrictlyIncreasing xs
+rising_increases [] up = λ k within. absurd (omega arith)
+rising_increases (x ∷ xs) up = ascending_cons x xs up.0 (rising_increases xs up.1)
 
 -- numbers that are as many in ascending order differ
 pub ascending_differ : (ns : List ℕ) → length (ascending ns) ≡ length ns → HasNoRepeat ns
@@ -201,3 +226,22 @@ places_differ xs a b up h i e = go (cases_order a b)
     go (inl same) = same
     go (inr (inl less)) = absurd (let r = place_rises xs a b up h i less in omega arith)
     go (inr (inr more)) = absurd (let r = place_rises xs b a up i h more in omega arith)
+
+-- a member stands at its place
+place_has : (xs : List ℕ) (n : ℕ) → Contains xs n → slice_get xs (place_of xs n) ≡ Some n
+place_has [] n h = absurd (Contains-none n h)
+place_has (x ∷ xs) n h = go (cases_eq x n) (Contains-cases x n xs h) (λ i. place_has xs n i)
+  where
+    go : (x ≡ n) ⊎ (x ≡ n → ⊥) → (x ≡ n) ⊎ Contains xs n → (Contains xs n → slice_get xs (place_of xs n) ≡ Some n)
+        → slice_get (x ∷ xs) (place_of (x ∷ xs) n) ≡ Some n
+    go (inl e) c rest = rw (place_here x n xs e) (ap Some e)
+    go (inr other) (inl e) rest = absurd (other e)
+    go (inr other) (inr i) rest =
+        let next : place_of (x ∷ xs) n ≡ suc (place_of xs n) = place_later x n xs other ∙ add-one (place_of xs n) in rw next (rest i)
+
+pub numbers_law : NumbersLaw
+numbers_law numbers = record {
+  rising = rising_increases (ascending numbers) (ascending_rises numbers);
+  members = λ n. (ascending_only numbers n, ascending_has numbers n);
+  places = λ n h. place_has (ascending numbers) n (ascending_has numbers n h);
+}
