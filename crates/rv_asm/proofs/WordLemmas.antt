@@ -2,11 +2,13 @@
 use Rattle.std.proofs.Common.{◌≡◌, ℕ, ◌+◌, List, [], ◌∷◌, ◌++◌, length, map, min, refl, ap, sym, subst, ◌∙◌, arith, append_assoc, append-nil, length-append}
 use Rattle.std.specs.List.{All}
 use Rattle.std.proofs.lemmas.Grind.{common_steps}
+use Rattle.std.proofs.lemmas.List.{length-map}
 use Rattle.std.proofs.lemmas.List.Elements.{All-push}
 use Rattle.rv_asm.specs.declared.image.Image.{Image}
 use Rattle.rv_asm.specs.declared.fault.AsmFault.{AsmFault}
 use Rattle.rv_asm.specs.declared.fault.AsmFault.TheVariants.{BadLine, Range, UnknownName, Twice, Memory}
 use Rattle.rv_asm.specs.Lines.{last_line, number_after}
+use Rattle.rv_asm.specs.Programs.{HasRoom}
 use Rattle.rv_asm.specs.WordFile.{HasWords, IsLineFault, IsRight, IsWordFault, places_from, TakesLine, word_line, words_of, words_on}
 
 -- the lines before the rest are right, the image has their words, and n is the number of the last of them
@@ -65,3 +67,19 @@ reading_fails all rest line image n m (Range k) r e f = record { before = r.befo
 reading_fails all rest line image n m (UnknownName k) r e f = f
 reading_fails all rest line image n m (Twice k) r e f = f
 reading_fails all rest line image n m Memory r e f = tt
+
+-- each word has its line
+places_as_long : (n : ℕ) (ls : List (List ℕ)) → length (places_from n ls) ≡ length (words_of ls)
+places_as_long n [] = refl
+places_as_long n (line ∷ more) =
+    length-append (map (λ _. number_after n) (words_on line)) (places_from (n + 1) more)
+    ∙ ap (λ k. k + length (places_from (n + 1) more)) (length-map (words_on line) (λ _. number_after n))
+    ∙ ap (λ k. length (words_on line) + k) (places_as_long (n + 1) more)
+    ∙ sym (length-append (words_on line) (words_of more))
+
+pub words_have_room : (ls : List (List ℕ)) (image : Image) → HasWords ls image → HasRoom image
+words_have_room ls image has = record {
+  text = let e = ap length has.text in let r = has.right.room in omega arith;
+  lines = ap length has.lines ∙ places_as_long 0 ls ∙ sym (ap length has.text);
+  values = let e = ap length has.values in omega arith;
+}

@@ -239,6 +239,63 @@ fn ignored_directives_make_nothing(rt: HostRuntime) {
 }
 
 #[test]
+fn sections_choose_the_part(rt: HostRuntime) {
+    let alloc = rt.alloc();
+    check_text(
+        &rt,
+        alloc,
+        b".section .text.start,\"ax\"\nnop",
+        &[0x00000013],
+    );
+    check_data(
+        &rt,
+        alloc,
+        b".section .data.x\n.byte 1\n.section .sdata\n.byte 2\n.section .bss,\"aw\"\n.byte 3\n.section .sbss.y\n.byte 4",
+        &[0x04030201],
+    );
+}
+
+// The words of the load, the store and `fp` are those of GNU as 2.40.
+#[test]
+fn values_and_names_of_many_kinds(rt: HostRuntime) {
+    let alloc = rt.alloc();
+    check_text(&rt, alloc, b"lw a0,%lo(0x12345678)(a1)", &[0x6785a503]);
+    check_text(&rt, alloc, b"sw a0,%lo(0x12345678)(a1)", &[0x66a5ac23]);
+    check_text(&rt, alloc, b"mv fp,sp", &[0x00010413]);
+    check_text(&rt, alloc, b"nop\na: .equ b,a+4\n.word b", &[0x00000013, 8]);
+    check_text(&rt, alloc, b"x1: jal x1", &[0x000000ef]);
+    check_fault(
+        &rt,
+        alloc,
+        b".set a,1\n.set a,2",
+        AsmFault::Twice { line: 2 },
+    );
+}
+
+#[test]
+fn forms_outside_the_language(rt: HostRuntime) {
+    let alloc = rt.alloc();
+    check_fault(
+        &rt,
+        alloc,
+        b".equ n,8\n.data\n.zero n",
+        AsmFault::BadLine { line: 3 },
+    );
+    check_fault(&rt, alloc, b".:", AsmFault::BadLine { line: 1 });
+    check_fault(&rt, alloc, b".equ .,1", AsmFault::BadLine { line: 1 });
+    check_fault(&rt, alloc, b"jalr a0,(a1)", AsmFault::BadLine { line: 1 });
+    check_fault(&rt, alloc, b".word", AsmFault::BadLine { line: 1 });
+    check_fault(
+        &rt,
+        alloc,
+        b".section \".text\"",
+        AsmFault::BadLine { line: 1 },
+    );
+    check_fault(&rt, alloc, b".ident :x", AsmFault::BadLine { line: 1 });
+    check_fault(&rt, alloc, b"nop\r", AsmFault::BadLine { line: 1 });
+}
+
+#[test]
 fn labels_and_lines(rt: HostRuntime) {
     let alloc = rt.alloc();
     let program = b"a: b : nop # one\r\n\n .data // two\nt:.word a,t\n.text\nc:\tla a0 , t\n j a";

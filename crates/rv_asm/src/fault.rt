@@ -8,9 +8,10 @@ use coco_base::NoMemory;
 pub enum AsmFault {
     /// The line is outside the language.
     BadLine { line: u32 },
-    /// The line has a name that nothing defines.
+    /// The line has a name that nothing defines, or one that `.equ`, `.set` or `li` needs defined on a line before, as a
+    /// number.
     UnknownName { line: u32 },
-    /// The line has a value outside its field, or passes the end of a region.
+    /// The line has a number, a value, a count or an alignment outside its range, or passes the end of a region.
     Range { line: u32 },
     /// The line defines a name that is defined before.
     Twice { line: u32 },

@@ -2,6 +2,7 @@
 ghost use Rattle.std.specs.Prelude.{◌≡◌, IfOk, IfErr, OnOk};
 ghost use Rattle.std.specs.List.{list_all};
 ghost use Rattle.std.specs.Str.Lines.{lines};
+ghost use Rattle.rv_asm.specs.Programs.{HasRoom};
 ghost use Rattle.rv_asm.specs.WordFile.{has_nothing, HasWords, is_blank, IsLineFault, IsWordFault, TakesLine, word_line};
 
 use crate::fault::AsmFault;
@@ -25,6 +26,7 @@ enum WordLine {
 /// whichever comes first.
 pub fn read_words(alloc: Global, bytes: &[u8]) -> Result<Image, AsmFault>
     ensures image { IfOk result (HasWords (lines bytes.now)) }
+    ensures room { IfOk result HasRoom }
     ensures fault { IfErr result (IsWordFault (lines bytes.now)) }
 {
     let mut image = Image::empty(alloc);
