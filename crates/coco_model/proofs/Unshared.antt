@@ -122,6 +122,19 @@ reached name (suc (suc b)) below leaf = absurd (omega arith)
 pub zero_apart : (l : ℕ) → nat_eq 0 (suc l) ≡ false
 zero_apart l = grind (arith, nat_tests)
 
+-- the one secret has the label 0 alone
+pub one_label : (name : Text) (shares : List ℕ) → Contains (secret_labels (unshared_setup name).table.secrets) shares → (l : ℕ)
+    → Contains shares l → 0 ≡ l
+one_label name shares h l i = go (Contains-cases (0 ∷ []) shares [] h)
+  where
+    last : (0 ≡ l) ⊎ Contains [] l → 0 ≡ l
+    last (inl e) = e
+    last (inr none) = absurd (Contains-none l none)
+
+    go : ((0 ∷ []) ≡ shares) ⊎ Contains [] shares → 0 ≡ l
+    go (inl e) = last (Contains-cases 0 l [] (subst (λ s. Contains s l) (sym e) i))
+    go (inr none) = absurd (Contains-none shares none)
+
 pub unshared_finding : (name : Text) → HasFinding (one_register name) (unshared_setup name) 1 1
 unshared_finding name = record {
   row = λ t. row;
@@ -194,16 +207,4 @@ unshared_finding name = record {
         → Contains shares b
         → set_of_pairs root set_of (the_probe ∷ []) a ≡ set_of_pairs root set_of (the_probe ∷ []) b
     all_or_none shares h a b in_a in_b =
-        ap (set_of_pairs root set_of (the_probe ∷ [])) (sym (one_label shares h a in_a) ∙ one_label shares h b in_b)
-      where
-        one_label : (shares : List ℕ) → Contains (secret_labels (unshared_setup name).table.secrets) shares → (l : ℕ) → Contains shares l
-            → 0 ≡ l
-        one_label shares h l i = go (Contains-cases (0 ∷ []) shares [] h)
-          where
-            last : (0 ≡ l) ⊎ Contains [] l → 0 ≡ l
-            last (inl e) = e
-            last (inr none) = absurd (Contains-none l none)
-
-            go : ((0 ∷ []) ≡ shares) ⊎ Contains [] shares → 0 ≡ l
-            go (inl e) = last (Contains-cases 0 l [] (subst (λ s. Contains s l) (sym e) i))
-            go (inr none) = absurd (Contains-none shares none)
+        ap (set_of_pairs root set_of (the_probe ∷ [])) (sym (one_label name shares h a in_a) ∙ one_label name shares h b in_b)

@@ -18,7 +18,7 @@ use Rattle.coco_model.specs.Nodes.{node_number, node_set, IsAllowedChoice, IsNod
 use Rattle.coco_model.specs.WrittenFindings.{set_of_nodes, IsFindingValue}
 use Rattle.coco_model.specs.Examples.{known_bits, one_register, unshared_setup, unshared_reach, unshared_value}
 use Rattle.coco_model.proofs.Basics.{Contains-here, Contains-cases, Contains-none}
-use Rattle.coco_model.proofs.Unshared.{zero_apart}
+use Rattle.coco_model.proofs.Unshared.{one_label, zero_apart}
 
 abbrev index : ℕ → ℕ → ℕ
 index = node_number 2 (λ b. b)
@@ -65,22 +65,11 @@ is_whole name = record { no_mask = no_mask; all_or_none = all_or_none }
     no_mask zero e = (0 ∷ [], Contains-here (0 ∷ []) [], Contains-here 0 [])
     no_mask (suc l) e = absurd (false≢true (subst (λ b. xor b false ≡ true) (zero_apart l) e))
 
-    label_zero : (shares : List ℕ) → Contains (secret_labels (unshared_setup name).table.secrets) shares → (l : ℕ) → Contains shares l → 0 ≡ l
-    label_zero shares h l i = go (Contains-cases (0 ∷ []) shares [] h)
-      where
-        last : (0 ≡ l) ⊎ Contains [] l → 0 ≡ l
-        last (inl e) = e
-        last (inr none) = absurd (Contains-none l none)
-
-        go : ((0 ∷ []) ≡ shares) ⊎ Contains [] shares → 0 ≡ l
-        go (inl e) = last (Contains-cases 0 l [] (subst (λ s. Contains s l) (sym e) i))
-        go (inr none) = absurd (Contains-none shares none)
-
     all_or_none : (shares : List ℕ) → Contains (secret_labels (unshared_setup name).table.secrets) shares → (a b : ℕ)
         → Contains shares a → Contains shares b
         → set_of_nodes index sets (the_probe ∷ []) a ≡ set_of_nodes index sets (the_probe ∷ []) b
     all_or_none shares h a b in_a in_b =
-        ap (set_of_nodes index sets (the_probe ∷ [])) (sym (label_zero shares h a in_a) ∙ label_zero shares h b in_b)
+        ap (set_of_nodes index sets (the_probe ∷ [])) (sym (one_label name shares h a in_a) ∙ one_label name shares h b in_b)
 
 apart_zero : (l : ℕ) → nat_eq (suc l) 0 ≡ false
 apart_zero l = grind (arith, nat_tests)

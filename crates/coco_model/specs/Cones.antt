@@ -1,5 +1,5 @@
--- Cones: the labels that a root, a node or a probe can have in its sets; the weight of a run, and whether it is
--- covered.
+-- Cones: all labels that the sets of a root, a node or a probe can have, and perhaps more; the weight of a run, and
+-- whether it is covered.
 use Rattle.std.specs.Prelude.{◌≡◌, ℕ, suc, ◌+◌, ◌*◌, ◌<◌, false, List, [], ◌∷◌, length, get_or, Contains, ◌↔◌}
 use Rattle.std.specs.List.Sorted.{IsStrictlyIncreasing}
 use Rattle.coco_base.specs.declared.netlist.Flat.{Flat}

@@ -37,7 +37,8 @@ pub record IsChosen (set_of : Root → Labels) (row : Row) (root : ℕ → Root)
   pub set : (l : ℕ) → chosen l ≡ chosen_set (λ w. set_of (wire_root root w)) subset (wires_of c) l
 
 -- a selection: a set of labels for each root, empty for nothing, the label itself for a label, and chosen for each cell
--- output that is a root; after the correlation sets of the tool Coco (Bloem et al. 2018; Gigerl et al. 2021)
+-- output that is a root; after the correlation sets of Bloem et al. (2018) and Gigerl et al. (2021), in a form of this
+-- project's own
 pub record IsSelection (flat : Flat) (cycles : ℕ) (row : ℕ → Row) (root : ℕ → ℕ → Root)
     (set_of : Root → Labels) : Type 0 where
   pub empty : (l : ℕ) → set_of nothing l ≡ false

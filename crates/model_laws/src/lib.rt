@@ -86,8 +86,8 @@ pub fn widely_secure_law()
     ensures { WidelySecureLaw }
 {}
 
-/// A netlist without loops and with one driver for each bit, and a setup that binds its inputs, have runs, known values,
-/// roots and reaches.
+/// A netlist without loops, with one driver for each bit and with numbers in range, and a setup that binds its inputs, have
+/// runs, known values, roots and reaches.
 pub fn meaning_law()
     ensures { MeaningLaw }
 {}
