@@ -1,7 +1,8 @@
 ghost use Rattle.std.specs.Prelude.{◌≤◌};
 
 use crate::{
-    FolderShelf, LabelSet, List, MemFile, MemShelf, MemSink, NoMemory, OutSink, Shelf, Sink, Text,
+    FolderShelf, LabelSet, List, MemFile, MemShelf, MemSink, NoMemory, NumberFault, OutSink, Shelf,
+    Sink, Text, literal_of, next_line, number_of, words,
 };
 use std::alloc::Global;
 use std::fs;
@@ -79,5 +80,63 @@ fn a_set_of_one_label_has_that_label_alone(rt: HostRuntime) -> Result<(), NoMemo
     let set = LabelSet::of(rt.alloc(), 7)?;
     assert!(rt; set.has(7) && !set.has(0) && !set.has(8));
     assert!(rt; !LabelSet::empty(rt.alloc()).has(7));
+    Ok(())
+}
+
+#[test]
+fn a_line_ends_with_a_line_feed_and_the_return_before_it(rt: HostRuntime) {
+    let (first, rest) = next_line(b"a b\r\r\n\n c\r").expect(&rt, "a line");
+    assert_eq!(rt; first, b"a b\r".as_slice());
+    let (second, rest) = next_line(rest).expect(&rt, "a second line");
+    assert_eq!(rt; second, b"".as_slice());
+    let (last, rest) = next_line(rest).expect(&rt, "a third line");
+    assert_eq!(rt; last, b" c\r".as_slice());
+    assert!(rt; next_line(rest).is_none());
+}
+
+#[test]
+fn words_stand_between_spaces_and_tabs(rt: HostRuntime) -> Result<(), Fail> {
+    let all = words(rt.alloc(), " \treg  q\u{e9}[0]\ta.1\r \t")?;
+    assert_eq!(rt; all.as_slice(), ["reg", "q\u{e9}[0]", "a.1\r"].as_slice());
+    assert!(rt; words(rt.alloc(), "\t ")?.is_empty());
+    Ok(())
+}
+
+#[test]
+fn a_number_has_digits_of_its_radix_and_is_no_greater_than_allowed(rt: HostRuntime) {
+    assert_eq!(rt; number_of(b"0032", 10, 32), Ok(32));
+    assert_eq!(rt; number_of(b"33", 10, 32), Err(NumberFault::TooLarge));
+    assert_eq!(rt;
+        number_of(b"99999999999999999999", 10, u64::MAX),
+        Err(NumberFault::TooLarge)
+    );
+    assert_eq!(rt;
+        number_of(b"99999999999999999999x", 10, 1),
+        Err(NumberFault::NotDigits)
+    );
+    assert_eq!(rt; number_of(b"", 10, 1), Err(NumberFault::NotDigits));
+    assert_eq!(rt; number_of(b"+1", 10, 1), Err(NumberFault::NotDigits));
+    assert_eq!(rt; literal_of(b"0xffFFffff", 4294967295), Ok(4294967295));
+    assert_eq!(rt; literal_of(b"0x", 4294967295), Err(NumberFault::NotDigits));
+    assert_eq!(rt; literal_of(b"0X1", 4294967295), Err(NumberFault::NotDigits));
+    assert_eq!(rt;
+        literal_of(b"4294967296", 4294967295),
+        Err(NumberFault::TooLarge)
+    );
+}
+
+#[test]
+fn the_exclusive_or_of_two_sets_has_what_one_alone_has(rt: HostRuntime) -> Result<(), NoMemory> {
+    let zero = LabelSet::of(rt.alloc(), 0)?;
+    let one = LabelSet::of(rt.alloc(), 1)?;
+    let both = zero.xor(rt.alloc(), &one)?;
+    assert!(rt; both.has(0) && both.has(1) && !both.has(2));
+    let again = both.xor(rt.alloc(), &one)?;
+    assert!(rt; again.has(0) && !again.has(1));
+    let all = both.union(rt.alloc(), &one)?;
+    assert!(rt; all.has(0) && all.has(1) && !all.has(2));
+    assert_eq!(rt; all.len(), 2);
+    assert!(rt; !all.is_empty() && LabelSet::empty(rt.alloc()).is_empty());
+    assert!(rt; all.iter().eq([0, 1].iter()));
     Ok(())
 }

@@ -1,0 +1,5 @@
+mod LineLemmas
+mod WordLemmas
+mod NumberLemmas
+pub mod Ranges
+pub mod Members
