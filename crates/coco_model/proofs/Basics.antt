@@ -1,5 +1,5 @@
 -- Members of lists, by the list's head and tail.
-use Rattle.std.proofs.Common.{◌≡◌, zero, suc, ◌⊎◌, inl, inr, List, [], ◌∷◌, refl, arith}
+use Rattle.std.proofs.Common.{◌≡◌, zero, suc, ◌⊎◌, inl, inr, List, [], ◌∷◌, refl, subst, arith}
 use Rattle.std.specs.Prelude.{Contains, Any}
 
 pub Contains-here : {X : Type 0} (x : X) (xs : List X) → Contains (x ∷ xs) x
@@ -15,13 +15,21 @@ Contains-cases x y xs (suc k, below, is) = inr (k, omega arith, is)
 pub Contains-none : {X : Type 0} (y : X) → Contains [] y → ⊥
 Contains-none y (k, below, is) = omega arith
 
+-- what holds of the one member of a list holds of each
+pub only_member : {X : Type 0} (P : X → Type 0) (x : X) → P x → (y : X) → Contains (x ∷ []) y → P y
+only_member P x p y h = go (Contains-cases x y [] h)
+  where
+    go : (x ≡ y) ⊎ Contains [] y → P y
+    go (inl e) = subst P e p
+    go (inr none) = absurd (Contains-none y none)
+
 -- a member of which P holds
-pub record IsSome {X : Type 0} (P : X → Type 0) (xs : List X) : Type 0 where
+pub record HasMember {X : Type 0} (P : X → Type 0) (xs : List X) : Type 0 where
   pub member : X
   pub listed : Contains xs member
   pub holds : P member
 
-pub some_from_any : {X : Type 0} (P : X → Type 0) (xs : List X) → Any P xs → IsSome P xs
+pub some_from_any : {X : Type 0} (P : X → Type 0) (xs : List X) → Any P xs → HasMember P xs
 some_from_any P xs (k, x, below, is, p) = record { member = x; listed = (k, below, is); holds = p }
 
 pub any_from_member : {X : Type 0} (P : X → Type 0) (xs : List X) (x : X) → Contains xs x → P x → Any P xs

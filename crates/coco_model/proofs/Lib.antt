@@ -12,3 +12,6 @@ mod Unshared
 mod UnsharedValue
 mod Masked
 mod MaskedRun
+mod Needs
+mod Overwritten
+mod Windowed

@@ -90,6 +90,7 @@ is_first states name state starts = record {
   flops = each_of (HasStart states name state) (masked_register name).flops starts;
   echoes = λ e h. absurd (Contains-none e h);
   answers = λ mem h. absurd (Contains-none mem h);
+  leaves = λ leaf h. absurd (Contains-none leaf h);
   words = λ address k. refl;
 }
 
@@ -104,6 +105,7 @@ is_next states name v old new nexts = record {
   flops = each_of (HasNext states old new) (masked_register name).flops nexts;
   echoes = λ e h. absurd (Contains-none e h);
   answers = λ mem h. absurd (Contains-none mem h);
+  leaves = λ leaf h. absurd (Contains-none leaf h);
   words = λ address k. refl;
 }
 

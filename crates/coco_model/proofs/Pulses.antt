@@ -19,7 +19,7 @@ use Rattle.coco_model.specs.Reach.{Reach, Reaches, IsReach}
 use Rattle.coco_model.specs.Reach.Reaches.{here, through}
 use Rattle.coco_model.specs.Examples.{gate, keeper, pulsing_gate, pulsing_setup, IsPulsingReach}
 use Rattle.coco_model.proofs.Keepers.{kept_known, both_of, before_below}
-use Rattle.coco_model.proofs.Basics.{Contains-here, Contains-later, Contains-cases, Contains-none, IsSome, some_from_any, any_from_member}
+use Rattle.coco_model.proofs.Basics.{Contains-here, Contains-later, Contains-cases, Contains-none, HasMember, some_from_any, any_from_member}
 use Rattle.coco_model.proofs.Walks.{IsStep, step_from_cell, same_leaf}
 
 -- gates of two inputs that vary vary
@@ -85,7 +85,7 @@ xor_listed name = Contains-later (the_and name) (the_xor name) (the_xor name ∷
 cell_bits : (name : Text) (b : ℕ) → IsCellBit (pulsing_gate name) b → (4 ≡ b) ⊎ (2 ≡ b)
 cell_bits name b h = go (the_cells name s.member s.listed)
   where
-    s : IsSome (λ (c : FlatCell). c.output ≡ b) (pulsing_gate name).cells
+    s : HasMember (λ (c : FlatCell). c.output ≡ b) (pulsing_gate name).cells
     s = some_from_any (λ (c : FlatCell). c.output ≡ b) (pulsing_gate name).cells h
 
     go : (the_and name ≡ s.member) ⊎ (the_xor name ≡ s.member) → (4 ≡ b) ⊎ (2 ≡ b)

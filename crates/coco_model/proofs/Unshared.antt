@@ -47,6 +47,7 @@ is_carried states v register other name named plain = record {
     flops = flops;
     echoes = λ e h. absurd (Contains-none e h);
     answers = λ mem h. absurd (Contains-none mem h);
+    leaves = λ leaf h. absurd (Contains-none leaf h);
     words = λ address k. plain;
   };
   next = λ t below. absurd (omega arith);
@@ -135,7 +136,7 @@ one_label name shares h l i = go (Contains-cases (0 ∷ []) shares [] h)
     go (inl e) = last (Contains-cases 0 l [] (subst (λ s. Contains s l) (sym e) i))
     go (inr none) = absurd (Contains-none shares none)
 
-pub unshared_finding : (name : Text) → HasFinding (one_register name) (unshared_setup name) 1 1
+pub unshared_finding : (name : Text) → HasFinding (one_register name) (unshared_setup name) 1 1 1
 unshared_finding name = record {
   row = λ t. row;
   word = λ t address k. Zero;
@@ -186,8 +187,8 @@ unshared_finding name = record {
         go (inl e) = e
         go (inr none) = absurd (Contains-none u none)
 
-    each : (p : Probe) → Contains (the_probe ∷ []) p → IsProbe (one_register name) (unshared_setup name) 1 p
-    each p h = subst (IsProbe (one_register name) (unshared_setup name) 1) (only p h)
+    each : (p : Probe) → Contains (the_probe ∷ []) p → IsProbe 2 (Some 0) 1 p
+    each p h = subst (IsProbe 2 (Some 0) 1) (only p h)
         (record { bit = omega arith; no_clock = λ e. cc; cycle = omega arith })
 
     seen : (u : Probe) → Contains (the_probe ∷ []) u → IsSeen (λ t. row) reach (the_probe ∷ []) u

@@ -1,5 +1,5 @@
 -- The finding of a secret of one share, as a value.
-use Rattle.std.proofs.Common.{◌≡◌, ℕ, zero, suc, ◌<◌, ◌⊎◌, inl, inr, true, false, ◌||◌, get_or, List, [], ◌∷◌, nat_eq, refl, sym, ◌∙◌, ap, subst, arith}
+use Rattle.std.proofs.Common.{◌≡◌, ℕ, zero, suc, ◌<◌, ◌⊎◌, inl, inr, true, false, ◌||◌, get_or, List, [], ◌∷◌, Some, nat_eq, refl, sym, ◌∙◌, ap, subst, arith}
 use Rattle.std.specs.Prelude.{Contains}
 use Rattle.std.proofs.lemmas.Bool.{false≢true}
 use Rattle.std.proofs.lemmas.Bool.Decides.{nat_tests}
@@ -16,7 +16,7 @@ use Rattle.coco_model.specs.Secure.{IsProbe}
 use Rattle.coco_model.specs.Findings.{Labels, IsWhole, IsSeen}
 use Rattle.coco_model.specs.Nodes.{node_number, node_set, IsAllowedChoice, IsNodeSelection}
 use Rattle.coco_model.specs.WrittenFindings.{set_of_nodes, IsFindingValue}
-use Rattle.coco_model.specs.Examples.{known_bits, one_register, unshared_setup, unshared_reach, unshared_value}
+use Rattle.coco_model.specs.Examples.{known_bits, unshared_setup, unshared_reach, unshared_run, unshared_value}
 use Rattle.coco_model.proofs.Basics.{Contains-here, Contains-cases, Contains-none}
 use Rattle.coco_model.proofs.Unshared.{one_label, zero_apart}
 
@@ -74,15 +74,14 @@ is_whole name = record { no_mask = no_mask; all_or_none = all_or_none }
 apart_zero : (l : ℕ) → nat_eq (suc l) 0 ≡ false
 apart_zero l = grind (arith, nat_tests)
 
-pub is_value : (name : Text)
-    → IsFindingValue (one_register name) (unshared_setup name) 1 1 index rows unshared_reach nodes (unshared_value (0 ∷ []))
+pub is_value : (name : Text) → IsFindingValue (unshared_run name) 1 (unshared_value (0 ∷ []))
 is_value name = record {
   sets = sets;
   written = record {
     candidate = record {
       some = omega arith;
       most = omega arith;
-      each = λ p h. subst (IsProbe (one_register name) (unshared_setup name) 1) (only p h)
+      each = λ p h. subst (IsProbe 2 (Some 0) 1) (only p h)
           (record { bit = omega arith; no_clock = λ e. cc; cycle = omega arith });
       ascending = ((λ q h. absurd (Contains-none q h)), tt);
       in_order = ((λ q h. absurd (Contains-none q h)), tt);
@@ -103,6 +102,5 @@ is_value name = record {
     set zero = refl
     set (suc l) = ap (λ b. b || false) (apart_zero l) ∙ sym (ap (λ b. xor b false) (zero_apart l))
 
-pub is_no_value : (name : Text)
-    → IsFindingValue (one_register name) (unshared_setup name) 1 1 index rows unshared_reach nodes (unshared_value []) → ⊥
+pub is_no_value : (name : Text) → IsFindingValue (unshared_run name) 1 (unshared_value []) → ⊥
 is_no_value name v = false≢true (v.set 0 ∙ ap (λ b. xor b false) (v.written.candidate.selection.follows 1 (omega arith) 0))

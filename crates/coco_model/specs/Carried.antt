@@ -12,6 +12,7 @@ use Rattle.coco_base.specs.declared.setup.InputPlan.{InputPlan}
 use Rattle.coco_base.specs.declared.setup.EchoPlan.{EchoPlan}
 use Rattle.coco_base.specs.declared.setup.MemPlan.{MemPlan}
 use Rattle.coco_base.specs.declared.setup.WordPlan.{WordPlan}
+use Rattle.coco_base.specs.declared.setup.LeafPlan.{LeafPlan}
 use Rattle.coco_base.specs.declared.setup.Setup.{Setup}
 use Rattle.coco_model.specs.Netlist.{Valuation, on_wire, wire_value, IsUndriven, IsInputBit, HasNoRepeat}
 
@@ -30,12 +31,15 @@ start_state states table cycle (Fresh j) = states.label (table.declared + cycle 
 abbrev pub entry_of : List Start → ℕ → Start
 entry_of values cycle = get_or values (min cycle (length values - 1)) (Public false)
 
--- the state that a bit of a memory word starts with: as the word's plan says, and 0 without a plan
+-- what bit k of the memory word at an address starts with: as the word's plan says, and public 0 without a plan
+abbrev pub word_start : List WordPlan → ℕ → ℕ → Start
+word_start [] address k = Public false
+word_start (w ∷ words) address k =
+    cond (nat_eq w.address address) (get_or w.bits k (Public false)) (word_start words address k)
+
+-- the state that a bit of a memory word starts with
 abbrev pub start_word : {X : Type 0} → States X → LabelTable → List WordPlan → ℕ → ℕ → X
-start_word states table [] address k = states.constant false
-start_word states table (w ∷ words) address k =
-    cond (nat_eq w.address address) (start_state states table 0 (get_or w.bits k (Public false)))
-    (start_word states table words address k)
+start_word states table words address k = start_state states table 0 (word_start words address k)
 
 -- a wire that may be absent, as one that is 0
 abbrev pub wire_or_off : Option Wire → Wire
@@ -79,7 +83,8 @@ pub record IsGiven {X : Type 0} (states : States X) (flat : Flat) (setup : Setup
   pub inputs : (p : InputPlan) → Contains setup.inputs p
       → state p.bit ≡ start_state states setup.table t (entry_of p.values t)
 
--- in cycle 0: flops and memory words have their starts, and echoes and memory answers are 0
+-- in cycle 0: flops and memory words have their starts, echoes and memory answers are 0, and a bit of a word leaf has
+-- what its word's bit has
 pub record IsFirst {X : Type 0} (states : States X) (flat : Flat) (setup : Setup) (state : ℕ → X)
     (word : ℕ → ℕ → X) : Type 0 where
   pub flops : (f : FlatFlop) → Contains flat.flops f
@@ -87,16 +92,21 @@ pub record IsFirst {X : Type 0} (states : States X) (flat : Flat) (setup : Setup
   pub echoes : (e : EchoPlan) → Contains setup.echoes e → state e.bit ≡ states.constant false
   pub answers : (mem : MemPlan) → Contains setup.memories mem → (k b : ℕ) → slice_get mem.answer k ≡ Some b
       → state b ≡ states.constant false
+  pub leaves : (leaf : LeafPlan) → Contains setup.leaves leaf → (k b : ℕ) → slice_get leaf.bits k ≡ Some b
+      → state b ≡ word leaf.address k
   pub words : (address k : ℕ) → word address k ≡ start_word states setup.table setup.words address k
 
 -- from a cycle to the next, where v tells what the memory ports do: a flop has what its next wire had, an echo what its
--- source had, an answer the word that was read or else what it had, and a word what was stored or else what it had
+-- source had, an answer the word that was read or else what it had, and a word, as a word leaf, what was stored or else
+-- what it had
 pub record IsNext {X : Type 0} (states : States X) (flat : Flat) (setup : Setup) (v : Valuation) (old : ℕ → X)
     (old_word : ℕ → ℕ → X) (new : ℕ → X) (new_word : ℕ → ℕ → X) : Type 0 where
   pub flops : (f : FlatFlop) → Contains flat.flops f → new f.output ≡ on_wire states.constant old f.next
   pub echoes : (e : EchoPlan) → Contains setup.echoes e → new e.bit ≡ on_wire states.constant old e.source
   pub answers : (mem : MemPlan) → Contains setup.memories mem → (k b : ℕ) → slice_get mem.answer k ≡ Some b
       → new b ≡ cond (is_read v mem) (old_word (word_address v mem) k) (old b)
+  pub leaves : (leaf : LeafPlan) → Contains setup.leaves leaf → (k b : ℕ) → slice_get leaf.bits k ≡ Some b
+      → new b ≡ stored_word states v old setup.memories leaf.address k (old b)
   pub words : (address k : ℕ)
       → new_word address k ≡ stored_word states v old setup.memories address k (old_word address k)
 
@@ -107,11 +117,12 @@ pub record IsCarried {X : Type 0} (states : States X) (flat : Flat) (setup : Set
   pub first : IsFirst states flat setup (state 0) (word 0)
   pub next : (t : ℕ) → suc t < cycles → IsNext states flat setup (v t) (state t) (word t) (state (suc t)) (word (suc t))
 
--- the bits that the clock line, inputs, echoes and memory answers bind
+-- the bits that the clock line, inputs, echoes, memory answers and word leaves bind
 abbrev pub bound_bits : Setup → List ℕ
 bound_bits setup =
     option_to_list setup.clock ++ map (λ (p : InputPlan). p.bit) setup.inputs
     ++ map (λ (e : EchoPlan). e.bit) setup.echoes ++ flat_map (λ (mem : MemPlan). mem.answer) setup.memories
+    ++ flat_map (λ (leaf : LeafPlan). leaf.bits) setup.leaves
 
 -- every input port bit is bound, once, and nothing else is
 pub record IsBound (flat : Flat) (setup : Setup) : Type 0 where

@@ -1,6 +1,6 @@
 -- Cones: all labels that the sets of a root, a node or a probe can have, and perhaps more; the weight of a run, and
 -- whether it is covered.
-use Rattle.std.specs.Prelude.{◌≡◌, ℕ, suc, ◌+◌, ◌*◌, ◌<◌, false, List, [], ◌∷◌, length, get_or, Contains, ◌↔◌}
+use Rattle.std.specs.Prelude.{◌≡◌, ℕ, suc, ◌+◌, ◌*◌, ◌<◌, ◌≤◌, false, List, [], ◌∷◌, length, take, get_or, Contains, ◌↔◌}
 use Rattle.std.specs.List.Sorted.{IsStrictlyIncreasing}
 use Rattle.coco_base.specs.declared.netlist.Flat.{Flat}
 use Rattle.coco_base.specs.declared.netlist.FlatCell.{FlatCell}
@@ -16,7 +16,7 @@ use Rattle.coco_model.specs.Netlist.{wires_of}
 use Rattle.coco_model.specs.Labels.{secret_labels}
 use Rattle.coco_model.specs.Known.{Row, cell_parts}
 use Rattle.coco_model.specs.Reach.{Reach}
-use Rattle.coco_model.specs.Secure.{IsProbe}
+use Rattle.coco_model.specs.Secure.{IsProbe, lasting}
 use Rattle.coco_model.specs.Roots.{Root}
 use Rattle.coco_model.specs.Roots.Root.{label, output}
 use Rattle.coco_model.specs.Findings.{Shows}
@@ -60,18 +60,31 @@ cone_weight cones i (n ∷ ns) = node_weight n (cones i) + cone_weight cones (su
 abbrev pub run_weight : ℕ → ℕ → ℕ → List Node → (ℕ → List ℕ) → ℕ
 run_weight bits cycles order nodes cones = bits * cycles * (order + 1) + cone_weight cones 0 nodes
 
--- a label is in the cone of a probe: in that of the root of a leaf in a cycle that the probe shows
-pub record IsInProbeCone (flat : Flat) (row : ℕ → Row) (reach : Reach) (root : ℕ → ℕ → Root) (probe : Probe)
-    (l : ℕ) : Type 0 where
+-- the first sum above a limit, where the cone sizes of the nodes are added in order: that up to a node, each sum before
+-- it being within the limit
+pub record IsFirstSumAbove (bits cycles order : ℕ) (nodes : List Node) (cones : ℕ → List ℕ)
+    (limit sum : ℕ) : Type 0 where
+  pub added : ℕ
+  pub within : added ≤ length nodes
+  pub is : sum ≡ run_weight bits cycles order (take added nodes) cones
+  pub above : limit < sum
+  pub least : (fewer : ℕ) → fewer < added → run_weight bits cycles order (take fewer nodes) cones ≤ limit
+
+-- a label is in the cone of a probe: in that of the root of a leaf in a cycle that the probe shows over its window
+pub record IsInProbeCone (flat : Flat) (cycles window : ℕ) (row : ℕ → Row) (reach : Reach) (root : ℕ → ℕ → Root)
+    (probe : Probe) (l : ℕ) : Type 0 where
+  pub moment : Probe
+  pub lasts : Contains (lasting cycles window probe) moment
   pub leaf : ℕ
   pub cycle : ℕ
-  pub shows : Shows reach probe leaf cycle
+  pub shows : Shows reach moment leaf cycle
   pub member : IsInRootCone flat row root l (root cycle leaf)
 
 -- a run is covered: the cones of all its probes together hold all shares of some secret bit
-pub record IsCovered (flat : Flat) (setup : Setup) (cycles : ℕ) (row : ℕ → Row) (reach : Reach)
+pub record IsCovered (flat : Flat) (setup : Setup) (cycles window : ℕ) (row : ℕ → Row) (reach : Reach)
     (root : ℕ → ℕ → Root) : Type 0 where
   pub shares : List ℕ
   pub secret : Contains (secret_labels setup.table.secrets) shares
   pub each : (l : ℕ) → Contains shares l
-      → (probe : Probe) × IsProbe flat setup cycles probe × IsInProbeCone flat row reach root probe l
+      → (probe : Probe) × IsProbe flat.bits setup.clock cycles probe
+      × IsInProbeCone flat cycles window row reach root probe l

@@ -13,7 +13,7 @@ use Rattle.coco_model.specs.Run.{before}
 use Rattle.coco_model.specs.Known.{Row, cell_parts, IsKnown}
 use Rattle.coco_model.specs.Calm.{IsCalm}
 use Rattle.coco_model.specs.Reach.{Reach, IsReachedRow}
-use Rattle.coco_model.specs.Secure.{IsProbe}
+use Rattle.coco_model.specs.Secure.{IsProbe, moments}
 use Rattle.coco_model.specs.Roots.{Root, wire_root, IsRooted}
 use Rattle.coco_model.specs.Roots.Root.{nothing, label, output}
 
@@ -53,7 +53,7 @@ pub record IsWhole (table : LabelTable) (labels : Labels) : Type 0 where
   pub all_or_none : (shares : List ℕ) → Contains (secret_labels table.secrets) shares → (a b : ℕ) → Contains shares a
       → Contains shares b → labels a ≡ labels b
 
--- a probe shows a leaf in a cycle: it reaches the leaf, and the cycle is the probe's own or the one before
+-- a probe of one cycle shows a leaf in a cycle: it reaches the leaf, and the cycle is the probe's own or the one before
 pub record Shows (reach : Reach) (probe : Probe) (leaf cycle : ℕ) : Type 0 where
   pub reached : Contains (reach probe.cycle probe.bit) leaf
   pub when : (cycle ≡ probe.cycle) ⊎ (suc cycle ≡ probe.cycle)
@@ -70,22 +70,22 @@ abbrev pub set_of_pairs : (ℕ → ℕ → Root) → (Root → Labels) → List 
 set_of_pairs root set_of pairs l = parity (map (λ (u : Probe). set_of (root u.cycle u.bit) l) pairs)
 
 -- a finding of order d: at least one and at most d different probes, different pairs of leaf and cycle that they show
--- and that are unknown, and a selection, by which the pairs' set is whole and not empty
-pub record IsFinding (flat : Flat) (setup : Setup) (cycles d : ℕ) (row : ℕ → Row) (reach : Reach) (root : ℕ → ℕ → Root)
-    (probes pairs : List Probe) (set_of : Root → Labels) : Type 0 where
+-- over their windows and that are unknown, and a selection, by which the pairs' set is whole and not empty
+pub record IsFinding (flat : Flat) (setup : Setup) (cycles window d : ℕ) (row : ℕ → Row) (reach : Reach)
+    (root : ℕ → ℕ → Root) (probes pairs : List Probe) (set_of : Root → Labels) : Type 0 where
   pub some : 0 < length probes
   pub most : length probes ≤ d
-  pub each : (p : Probe) → Contains probes p → IsProbe flat setup cycles p
+  pub each : (p : Probe) → Contains probes p → IsProbe flat.bits setup.clock cycles p
   pub different : HasNoRepeat probes
   pub once : HasNoRepeat pairs
-  pub seen : (u : Probe) → Contains pairs u → IsSeen row reach probes u
+  pub seen : (u : Probe) → Contains pairs u → IsSeen row reach (moments cycles window probes) u
   pub selection : IsSelection flat cycles row root set_of
   pub member : ℕ
   pub not_empty : set_of_pairs root set_of pairs member ≡ true
   pub whole : IsWhole setup.table (set_of_pairs root set_of pairs)
 
 -- a finding exists, over what is known, what is calm, what probes reach and the roots
-pub record HasFinding (flat : Flat) (setup : Setup) (cycles d : ℕ) : Type 0 where
+pub record HasFinding (flat : Flat) (setup : Setup) (cycles window d : ℕ) : Type 0 where
   pub row : ℕ → Row
   pub word : ℕ → ℕ → Row
   pub calm : ℕ → Row
@@ -99,4 +99,4 @@ pub record HasFinding (flat : Flat) (setup : Setup) (cycles d : ℕ) : Type 0 wh
   pub probes : List Probe
   pub pairs : List Probe
   pub set_of : Root → Labels
-  pub finding : IsFinding flat setup cycles d row reach root probes pairs set_of
+  pub finding : IsFinding flat setup cycles window d row reach root probes pairs set_of

@@ -76,7 +76,6 @@ pub record IsLabelTable (table : LabelTable) : Type 0 where
   pub wide : (s : SecretPlan) → Contains table.secrets s → 0 < s.width
   pub shared : (s : SecretPlan) → Contains table.secrets s → 0 < s.shares
   pub mask_wide : (m : MaskPlan) → Contains table.masks m → 0 < m.width
-  pub fresh_wide : (m : MaskPlan) → Contains table.fresh m → 0 < m.width
   pub few : table.declared ≤ 4096
   pub once : HasNoRepeat (declared_labels table)
   pub each : (l : ℕ) → Contains (declared_labels table) l ↔ (l < table.declared)

@@ -17,4 +17,8 @@ pub mod Findings
 pub mod Nodes
 pub mod WrittenFindings
 pub mod Cones
+pub mod Stepped
+pub mod UnrolledRuns
+pub mod Matters
+pub mod Goals
 pub mod Examples

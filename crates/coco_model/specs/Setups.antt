@@ -11,13 +11,14 @@ use Rattle.coco_base.specs.declared.setup.InputPlan.{InputPlan}
 use Rattle.coco_base.specs.declared.setup.EchoPlan.{EchoPlan}
 use Rattle.coco_base.specs.declared.setup.MemPlan.{MemPlan}
 use Rattle.coco_base.specs.declared.setup.WordPlan.{WordPlan}
+use Rattle.coco_base.specs.declared.setup.LeafPlan.{LeafPlan}
 use Rattle.coco_base.specs.declared.setup.When.{When}
 use Rattle.coco_base.specs.declared.setup.When.TheVariants.{Always, Requested, Written}
 use Rattle.coco_base.specs.declared.setup.ControlPlan.{ControlPlan}
 use Rattle.coco_base.specs.declared.setup.Setup.{Setup}
 use Rattle.coco_model.specs.Netlist.{wires_of, IsInputBit, IsWireBelow, HasNoRepeat}
 use Rattle.coco_model.specs.Labels.{IsLabelTable}
-use Rattle.coco_model.specs.Carried.{IsBound, IsLabelled}
+use Rattle.coco_model.specs.Carried.{IsBound, IsLabelled, word_start}
 use Rattle.coco_model.specs.Controls.{HasControls, IsInRegion}
 
 -- a time names one of so many memory ports
@@ -40,12 +41,23 @@ pub record IsMemoryPort (bits : ℕ) (mem : MemPlan) : Type 0 where
   pub enables_below : (w : Wire) → Contains mem.enables w → IsWireBelow bits w
   pub value_below : (w : Wire) → Contains mem.value w → IsWireBelow bits w
 
--- a word of 32 bits at a multiple of 4 in one of the memory's regions
+-- the address of a memory word: a multiple of 4 in one of the memory's regions
+pub record IsWordAddress (address : ℕ) : Type 0 where
+  pub word : ℕ
+  pub aligned : address ≡ 4 * word
+  pub inside : IsInRegion address
+
+-- a memory word of 32 bits
 pub record IsMemoryWord (w : WordPlan) : Type 0 where
   pub bits : length w.bits ≡ 32
-  pub word : ℕ
-  pub aligned : w.address ≡ 4 * word
-  pub inside : IsInRegion w.address
+  pub address : IsWordAddress w.address
+
+-- a memory word whose 32 bits are leaves, which start as the word's bits do
+pub record IsWordLeaf (setup : Setup) (leaf : LeafPlan) : Type 0 where
+  pub bits : length leaf.bits ≡ 32
+  pub address : IsWordAddress leaf.address
+  pub starts : (k b : ℕ) → slice_get leaf.bits k ≡ Some b
+      → slice_get setup.starts b ≡ Some (word_start setup.words leaf.address k)
 
 -- an input port bit that no cell and no next value or reset of a flop reads
 pub record IsClock (flat : Flat) (b : ℕ) : Type 0 where
@@ -56,7 +68,8 @@ pub record IsClock (flat : Flat) (b : ℕ) : Type 0 where
 
 -- a setup is bound to a netlist: its numbers are in range, a cycle has at most as many fresh labels as the netlist has
 -- bits, its parts have their widths, inputs start as their plans say, echoes and memory answers start at 0, at most one
--- memory port writes, the words are apart, the controls are there, and each input port bit is bound once
+-- memory port writes, the words are apart, and so are the words that are leaves, the controls are there, and each input
+-- port bit is bound once
 pub record IsBoundTo (flat : Flat) (setup : Setup) : Type 0 where
   pub table : IsLabelTable setup.table
   pub fresh_labels : setup.table.per_cycle ≤ flat.bits
@@ -77,6 +90,8 @@ pub record IsBoundTo (flat : Flat) (setup : Setup) : Type 0 where
       → IsSome one.write → IsSome other.write → i ≡ j
   pub words : (w : WordPlan) → Contains setup.words w → IsMemoryWord w
   pub apart : HasNoRepeat (map (λ (w : WordPlan). w.address) setup.words)
+  pub leaves : (leaf : LeafPlan) → Contains setup.leaves leaf → IsWordLeaf setup leaf
+  pub leaves_apart : HasNoRepeat (map (λ (leaf : LeafPlan). leaf.address) setup.leaves)
   pub pc : length setup.pc ≤ 32
   pub pc_below : (w : Wire) → Contains setup.pc w → IsWireBelow flat.bits w
   pub controls : HasControls flat setup
