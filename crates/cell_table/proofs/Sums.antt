@@ -9,7 +9,7 @@ use Rattle.coco_base.specs.declared.cell.Part.TheVariants.{Zero, One, Vary}
 use Rattle.coco_model.specs.Cells.{output_of, input_count, xor, signed, subset_of_number, Subset, chosen_parity, allowed_inputs}
 use Rattle.coco_model.proofs.Bits.{xor-swap, and-false, and-true}
 use Rattle.coco_model.proofs.Signs.{sign_total-append, sign_total-map, sign_total-cong, sign_total-signed}
-use Rattle.cell_table.specs.Sums.{sum_of, partial_sum, joined_sum, IsWithin}
+use Rattle.cell_table.specs.Sums.{sum_of, partial_sum, joined_sum, IsBounded}
 
 -- a first place that is 0, is 1, or varies
 pub sum-zero : (f : List Bool → Bool) (s : Bool) (ss : Subset) (ps : List Part) → sum_of f (s ∷ ss) (Zero ∷ ps) ≡ sum_of (λ xs. f (false ∷ xs)) ss ps
@@ -33,16 +33,16 @@ pub sum-cong : (f g : List Bool → Bool) → ((xs : List Bool) → f xs ≡ g x
 sum-cong f g e ss ps = sign_total-cong _ _ (λ xs. rw (e xs) refl) (allowed_inputs ps)
 
 -- how large sums are
-pub within-signed : (n : ℕ) (s : Bool) (x : ℤ) → IsWithin n x → IsWithin n (signed s x)
-within-signed n true x w = let l = w.low in let h = w.high in record { low = omega (arith, ints); high = omega (arith, ints) }
-within-signed n false x w = w
+pub IsBounded-signed : (n : ℕ) (s : Bool) (x : ℤ) → IsBounded n x → IsBounded n (signed s x)
+IsBounded-signed n true x w = let l = w.low in let h = w.high in record { low = omega (arith, ints); high = omega (arith, ints) }
+IsBounded-signed n false x w = w
 
-pub within-add : (m n : ℕ) (x y : ℤ) → IsWithin m x → IsWithin m y → m + m ≤ n → IsWithin n (x +ℤ y)
-within-add m n x y v w h =
+pub IsBounded-add : (m n : ℕ) (x y : ℤ) → IsBounded m x → IsBounded m y → m + m ≤ n → IsBounded n (x +ℤ y)
+IsBounded-add m n x y v w h =
     let a = v.low in let b = v.high in let c = w.low in let d = w.high in record { low = omega (arith, ints); high = omega (arith, ints) }
 
-pub within-more : (m n : ℕ) (x : ℤ) → IsWithin m x → m ≤ n → IsWithin n x
-within-more m n x w h = let l = w.low in let u = w.high in record { low = omega (arith, ints); high = omega (arith, ints) }
+pub IsBounded-more : (m n : ℕ) (x : ℤ) → IsBounded m x → m ≤ n → IsBounded n x
+IsBounded-more m n x w h = let l = w.low in let u = w.high in record { low = omega (arith, ints); high = omega (arith, ints) }
 
 pub sum-joined : (f : List Bool → Bool) (p : Part) (s : Bool) (ss : Subset) (ps : List Part)
     → sum_of f (s ∷ ss) (p ∷ ps) ≡ joined_sum p s (sum_of (λ xs. f (false ∷ xs)) ss ps) (sum_of (λ xs. f (true ∷ xs)) ss ps)
@@ -50,10 +50,10 @@ sum-joined f Zero s ss ps = sum-zero f s ss ps
 sum-joined f One s ss ps = sum-one f s ss ps
 sum-joined f Vary s ss ps = sum-vary f s ss ps
 
-pub within-joined : (n : ℕ) (p : Part) (s : Bool) (x y : ℤ) → IsWithin n x → IsWithin n y → IsWithin (n + n) (joined_sum p s x y)
-within-joined n Zero s x y v w = within-more n (n + n) x v (omega arith)
-within-joined n One s x y v w = within-more n (n + n) _ (within-signed n s y w) (omega arith)
-within-joined n Vary s x y v w = within-add n (n + n) x _ v (within-signed n s y w) (omega arith)
+pub IsBounded-joined : (n : ℕ) (p : Part) (s : Bool) (x y : ℤ) → IsBounded n x → IsBounded n y → IsBounded (n + n) (joined_sum p s x y)
+IsBounded-joined n Zero s x y v w = IsBounded-more n (n + n) x v (omega arith)
+IsBounded-joined n One s x y v w = IsBounded-more n (n + n) _ (IsBounded-signed n s y w) (omega arith)
+IsBounded-joined n Vary s x y v w = IsBounded-add n (n + n) x _ v (IsBounded-signed n s y w) (omega arith)
 
 -- giving a value to the place behind those that are given
 put_behind : (given : List Bool) (place : ℕ) (b : Bool) → place < length given → take (suc place) (set given place b) ≡ take place given ++ b ∷ []
@@ -113,11 +113,11 @@ power_eight (suc (suc zero)) h = lit≤ tt
 power_eight (suc (suc (suc zero))) h = lit≤ tt
 power_eight (suc (suc (suc (suc n)))) h = absurd (omega arith)
 
-pub within_eight : (kind : Kind) (place : ℕ) (ps : List Part) (x : ℤ) → place + length ps ≡ input_count kind → 1 ≤ length ps
-    → IsWithin (2 ^ length (rest_of ps)) x → IsWithin 8 x
-within_eight kind place ps x e h w =
+pub bounded_by_eight : (kind : Kind) (place : ℕ) (ps : List Part) (x : ℤ) → place + length ps ≡ input_count kind → 1 ≤ length ps
+    → IsBounded (2 ^ length (rest_of ps)) x → IsBounded 8 x
+bounded_by_eight kind place ps x e h w =
     let four = input_count-four kind in let n = length-rest_of ps h in
-    within-more (2 ^ length (rest_of ps)) 8 x w (power_eight (length (rest_of ps)) (omega arith))
+    IsBounded-more (2 ^ length (rest_of ps)) 8 x w (power_eight (length (rest_of ps)) (omega arith))
 
 pub sum-returns : (kind : Kind) (given : List Bool) (place n : ℕ) (ps : List Part) (zero_sum one_sum r : ℤ)
     → length given ≡ 4 → place + length ps ≡ input_count kind → 1 ≤ length ps
@@ -134,11 +134,11 @@ sum-returns kind given place n ps zero_sum one_sum r g e h z o j =
         ≡ partial_sum kind given place (subset_of_number (length ps) n) ps
     ap2 = ap (λ qs. partial_sum kind given place (subset_of_number (length qs) n) qs) (sym (split_first ps h))
 
-pub within-returns : (ps : List Part) (p : Part) (s : Bool) (x y r : ℤ) → 1 ≤ length ps → IsWithin (2 ^ length (rest_of ps)) x → IsWithin (2 ^ length (rest_of ps)) y
-    → r ≡ joined_sum p s x y → IsWithin (2 ^ length ps) r
-within-returns ps p s x y r h v w e =
-    rw (← length-rest_of ps h, pow-suc 2 (length (rest_of ps)), mul_comm (2 ^ length (rest_of ps)) 2) (subst (λ q. IsWithin (2 * 2 ^ length (rest_of ps)) q) (sym e)
-    (within-more (2 ^ length (rest_of ps) + 2 ^ length (rest_of ps)) (2 * 2 ^ length (rest_of ps)) _ (within-joined (2 ^ length (rest_of ps)) p s x y v w) (omega arith)))
+pub IsBounded-returns : (ps : List Part) (p : Part) (s : Bool) (x y r : ℤ) → 1 ≤ length ps → IsBounded (2 ^ length (rest_of ps)) x → IsBounded (2 ^ length (rest_of ps)) y
+    → r ≡ joined_sum p s x y → IsBounded (2 ^ length ps) r
+IsBounded-returns ps p s x y r h v w e =
+    rw (← length-rest_of ps h, pow-suc 2 (length (rest_of ps)), mul_comm (2 ^ length (rest_of ps)) 2) (subst (λ q. IsBounded (2 * 2 ^ length (rest_of ps)) q) (sym e)
+    (IsBounded-more (2 ^ length (rest_of ps) + 2 ^ length (rest_of ps)) (2 * 2 ^ length (rest_of ps)) _ (IsBounded-joined (2 ^ length (rest_of ps)) p s x y v w) (omega arith)))
 
 -- the inputs of a kind among four places are as many as the kind has
 pub length-input_places : (kind : Kind) (ps : List Part) → length ps ≡ 4 → length (take (input_count kind) ps) ≡ input_count kind

@@ -17,7 +17,9 @@ abbrev pub subsets_of : List Part → List Subset
 subsets_of [] = [] ∷ []
 subsets_of (Zero ∷ ps) = map (λ (subset : Subset). false ∷ subset) (subsets_of ps)
 subsets_of (One ∷ ps) = map (λ (subset : Subset). false ∷ subset) (subsets_of ps)
-subsets_of (Vary ∷ ps) = map (λ (subset : Subset). false ∷ subset) (subsets_of ps) ++ map (λ (subset : Subset). true ∷ subset) (subsets_of ps)
+subsets_of (Vary ∷ ps) =
+    map (λ (subset : Subset). false ∷ subset) (subsets_of ps)
+    ++ map (λ (subset : Subset). true ∷ subset) (subsets_of ps)
 
 -- the sum of a number for each subset
 abbrev pub subset_total : (Subset → ℤ) → List Subset → ℤ
@@ -35,16 +37,19 @@ ExpansionLaw =
 -- a gate whose output is known has no live input
 abbrev pub KnownIsNotLiveLaw : Type 0
 KnownIsNotLiveLaw =
-    (kind : Kind) (parts : List Part) (output : Part) (place : ℕ) → IsForced kind parts output → output ≢ Vary → IsLiveInput kind parts place → ⊥
+    (kind : Kind) (parts : List Part) (output : Part) (place : ℕ) → IsForced kind parts output → output ≢ Vary →
+    IsLiveInput kind parts place → ⊥
 
 -- the output depends on the live inputs alone
 abbrev pub LiveDecideLaw : Type 0
 LiveDecideLaw =
     (kind : Kind) (parts : List Part) (one other : List Bool) → AllowsAll parts one → AllowsAll parts other →
-    ((place : ℕ) → IsLiveInput kind parts place → get_or one place false ≡ get_or other place false) → output_of kind one ≡ output_of kind other
+    ((place : ℕ) → IsLiveInput kind parts place → get_or one place false ≡ get_or other place false) →
+    output_of kind one ≡ output_of kind other
 
 -- a set of inputs at which the signed sum is not 0 has live inputs alone
 abbrev pub SumsAreLiveLaw : Type 0
 SumsAreLiveLaw =
-    (kind : Kind) (parts : List Part) (subset : Subset) → IsSubsetOf subset parts → signed_sum kind parts subset ≢ pos 0 →
+    (kind : Kind) (parts : List Part) (subset : Subset) → IsSubsetOf subset parts →
+    signed_sum kind parts subset ≢ pos 0 →
     (place : ℕ) → get_or subset place false ≡ true → IsLiveInput kind parts place

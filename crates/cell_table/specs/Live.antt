@@ -1,10 +1,12 @@
--- Which inputs of a gate matter, read off the connectives: what the code computes; that these are the live inputs is shown of it.
+-- Which inputs of a gate matter, read off the connectives: what the code computes. That these are the live inputs is
+-- shown of it.
 use Rattle.std.specs.Prelude.{ℕ, zero, suc, Bool, true, false, ◌&&◌}
 use Rattle.coco_base.specs.declared.cell.Kind.{Kind}
 use Rattle.coco_base.specs.declared.cell.Kind.TheVariants.{Buf, Not, And, Nand, Or, Nor, Xor, Xnor, AndNot, OrNot, Mux, Nmux, Aoi3, Oai3, Aoi4, Oai4}
 use Rattle.coco_base.specs.declared.cell.Part.{Part}
 use Rattle.coco_base.specs.declared.cell.Part.TheVariants.{Zero, One, Vary}
-use Rattle.cell_table.specs.Ternary.{and_part, or_part, same_part}
+use Rattle.coco_model.specs.Calm.{both}
+use Rattle.cell_table.specs.Ternary.{and_part, or_part}
 
 abbrev pub varies : Part → Bool
 varies Zero = false
@@ -72,8 +74,8 @@ third_matters Xor a b d = false
 third_matters Xnor a b d = false
 third_matters AndNot a b d = false
 third_matters OrNot a b d = false
-third_matters Mux a b d = varies (same_part a b)
-third_matters Nmux a b d = varies (same_part a b)
+third_matters Mux a b d = varies (both a b)
+third_matters Nmux a b d = varies (both a b)
 third_matters Aoi3 a b d = may_be_zero (and_part a b)
 third_matters Oai3 a b d = may_be_one (or_part a b)
 third_matters Aoi4 a b d = may_be_one d && may_be_zero (and_part a b)

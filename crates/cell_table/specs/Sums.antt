@@ -20,6 +20,6 @@ joined_sum One chosen zero one = signed chosen one
 joined_sum Vary chosen zero one = zero +ℤ signed chosen one
 
 -- from -n to n
-pub record IsWithin (n : ℕ) (x : ℤ) : Type 0 where
+pub record IsBounded (n : ℕ) (x : ℤ) : Type 0 where
   pub low : neg_ℤ (pos n) ≤ℤ x
   pub high : x ≤ℤ pos n

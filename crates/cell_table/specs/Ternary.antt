@@ -3,6 +3,7 @@ use Rattle.coco_base.specs.declared.cell.Kind.{Kind}
 use Rattle.coco_base.specs.declared.cell.Kind.TheVariants.{Buf, Not, And, Nand, Or, Nor, Xor, Xnor, AndNot, OrNot, Mux, Nmux, Aoi3, Oai3, Aoi4, Oai4}
 use Rattle.coco_base.specs.declared.cell.Part.{Part}
 use Rattle.coco_base.specs.declared.cell.Part.TheVariants.{Zero, One, Vary}
+use Rattle.coco_model.specs.Calm.{both}
 
 abbrev pub not_part : Part → Part
 not_part Zero = One
@@ -28,20 +29,11 @@ xor_part Zero b = b
 xor_part One b = not_part b
 xor_part Vary b = Vary
 
--- the part of both where they are one, and otherwise Vary
-abbrev pub same_part : Part → Part → Part
-same_part Zero Zero = Zero
-same_part Zero One = Vary
-same_part Zero Vary = Vary
-same_part One One = One
-same_part One Zero = Vary
-same_part One Vary = Vary
-same_part Vary b = Vary
-
+-- a multiplexer whose data inputs are known to be equal is known, whatever selects
 abbrev pub mux_part : Part → Part → Part → Part
 mux_part a b Zero = a
 mux_part a b One = b
-mux_part a b Vary = same_part a b
+mux_part a b Vary = both a b
 
 abbrev pub ternary : Kind → Part → Part → Part → Part → Part
 ternary Buf a b c d = a

@@ -1,6 +1,7 @@
 // Gates over parts: what is known of an output, as far as the connectives tell.
 ghost use Rattle.std.specs.Prelude.{◌≡◌};
-ghost use Rattle.cell_table.specs.Ternary.{not_part, and_part, or_part, xor_part, same_part, mux_part};
+ghost use Rattle.coco_model.specs.Calm.{both};
+ghost use Rattle.cell_table.specs.Ternary.{not_part, and_part, or_part, xor_part, mux_part};
 
 use coco_base::Part;
 
@@ -44,14 +45,14 @@ pub(crate) fn xor_part(a: Part, b: Part) -> Part
     }
 }
 
-/// The part of both where they are one, and `Vary` otherwise.
+// The part of both where they are one, and `Vary` otherwise.
 pub(crate) fn same_part(a: Part, b: Part) -> Part
-    ensures { result ≡ same_part a b }
+    ensures { result ≡ both a b }
 {
     if a == b { a } else { Part::Vary }
 }
 
-/// A multiplexer whose data inputs are known to be equal is known, whatever selects.
+// A multiplexer whose data inputs are known to be equal is known, whatever selects.
 pub(crate) fn mux_part(a: Part, b: Part, select: Part) -> Part
     ensures { result ≡ mux_part a b select }
 {
