@@ -126,9 +126,9 @@ calm_cycle flat setup cycles rank row word checked choice v m run t below calm s
 
 pub calm_law : CalmLaw
 unfolding CalmLaw
-calm_law flat setup cycles rank row word checked choice v m run t below calm still events b x h =
-    let a = calm_cycle flat setup cycles rank row word checked choice v m run t below calm still in
-    waveform-calm flat (row (before t)) (row t) calm still (v t) (v (before t)) a.new_allowed a.old_allowed events b x h
+calm_law flat setup cycles sim choice v m run t below calm still events b x h =
+    let a = calm_cycle flat setup cycles sim.rank sim.row sim.word sim.is choice v m run t below calm still in
+    waveform-calm flat (sim.row (before t)) (sim.row t) calm still (v t) (v (before t)) a.new_allowed a.old_allowed events b x h
 
 -- two values that a known part allows are one
 pub allowed_once : (p : Part) (x y : Bool) → p ≢ Vary → Allows p x → Allows p y → x ≡ y
@@ -255,23 +255,23 @@ waveform-alike flat old now calm still good new_v new_w v w new alike b reaches 
 
 pub waveform_law : WaveformLaw
 unfolding WaveformLaw
-waveform_law flat setup cycles rank row word checked one other v w m n run_v run_w t below calm still b agree events =
-    waveform-alike flat (row (before t)) (row t) calm still good (v t) (w t) (v (before t))
+waveform_law flat setup cycles sim one other v w m n run_v run_w t below calm still b agree events =
+    waveform-alike flat (sim.row (before t)) (sim.row t) calm still good (v t) (w t) (v (before t))
     (w (before t)) new old b (λ leaf walk. agree leaf walk) events
   where
     good : ℕ → Type 0
     good seen = (v (before t) seen ≡ w (before t) seen) × (v t seen ≡ w t seen)
 
-    left : AreCalm flat rank calm (v (before t)) (v t)
-    left = calm_cycle flat setup cycles rank row word checked one v m run_v t below calm still
+    left : AreCalm flat sim.rank calm (v (before t)) (v t)
+    left = calm_cycle flat setup cycles sim.rank sim.row sim.word sim.is one v m run_v t below calm still
 
-    right : AreCalm flat rank calm (w (before t)) (w t)
-    right = calm_cycle flat setup cycles rank row word checked other w n run_w t below calm still
+    right : AreCalm flat sim.rank calm (w (before t)) (w t)
+    right = calm_cycle flat setup cycles sim.rank sim.row sim.word sim.is other w n run_w t below calm still
 
     old : AreAlike calm (ReachesGood flat calm good) (v (before t)) (w (before t))
-    old = settled_alike flat rank (row (before t)) (row t) calm still checked.ranked good (v (before t)) (w (before t))
+    old = settled_alike flat sim.rank (sim.row (before t)) (sim.row t) calm still sim.is.ranked good (v (before t)) (w (before t))
         left.old_settled right.old_settled left.old_allowed right.old_allowed (λ leaf h. h.0)
 
     new : AreAlike calm (ReachesGood flat calm good) (v t) (w t)
-    new = settled_alike flat rank (row (before t)) (row t) calm still checked.ranked good (v t) (w t)
+    new = settled_alike flat sim.rank (sim.row (before t)) (sim.row t) calm still sim.is.ranked good (v t) (w t)
         left.new_settled right.new_settled left.new_allowed right.new_allowed (λ leaf h. h.1)

@@ -12,9 +12,10 @@ use Rattle.coco_base.specs.declared.setup.InputPlan.{InputPlan}
 use Rattle.coco_base.specs.declared.setup.EchoPlan.{EchoPlan}
 use Rattle.coco_base.specs.declared.setup.MemPlan.{MemPlan}
 use Rattle.coco_base.specs.declared.setup.WordPlan.{WordPlan}
+use Rattle.coco_base.specs.declared.setup.LeafPlan.{LeafPlan}
 use Rattle.coco_base.specs.declared.setup.Setup.{Setup}
 use Rattle.coco_model.specs.Netlist.{Valuation, on_wire, IsUndriven, IsCellBit, IsFlopBit, IsInputBit}
-use Rattle.coco_model.specs.Carried.{States, start_state, entry_of, start_word, stored_word, stores, is_read, word_address, IsGiven, IsFirst, IsNext, IsCarried, IsBound, bound_bits, AreStarts}
+use Rattle.coco_model.specs.Carried.{States, start_state, entry_of, word_start, start_word, stored_word, stores, is_read, word_address, IsGiven, IsFirst, IsNext, IsCarried, IsBound, bound_bits, AreStarts}
 use Rattle.coco_model.proofs.Basics.{Contains-here, Contains-later, Contains-cases, Contains-none, some_from_any}
 use Rattle.model_laws.proofs.Lists.{image_of_map, joined_of_flat_map, place_of_member}
 use Rattle.model_laws.proofs.Ranks.{flop_bit_or_not, input_bit_or_not}
@@ -27,6 +28,7 @@ pub data Leaf (flat : Flat) (setup : Setup) (b : ℕ) : Type 0 where
   input : (p : InputPlan) → Contains setup.inputs p → p.bit ≡ b → Leaf flat setup b
   echo : (e : EchoPlan) → Contains setup.echoes e → e.bit ≡ b → Leaf flat setup b
   answer : (mem : MemPlan) → Contains setup.memories mem → (k : ℕ) → slice_get mem.answer k ≡ Some b → Leaf flat setup b
+  word : (leaf : LeafPlan) → Contains setup.leaves leaf → (k : ℕ) → slice_get leaf.bits k ≡ Some b → Leaf flat setup b
   flop : (f : FlatFlop) → Contains flat.flops f → f.output ≡ b → Leaf flat setup b
 
 some_of_list : (o : Option ℕ) (b : ℕ) → Contains (option_to_list o) b → o ≡ Some b
@@ -38,7 +40,7 @@ some_of_list (Some x) b h = go (Contains-cases x b [] h)
     go (inr none) = absurd (Contains-none b none)
 
 bound_leaf : (flat : Flat) (setup : Setup) (b : ℕ) → Contains (bound_bits setup) b → Leaf flat setup b
-bound_leaf flat setup b h = last (Contains-append_cases (clocks ++ inputs ++ echoes) answers b h)
+bound_leaf flat setup b h = last (Contains-append_cases (clocks ++ inputs ++ echoes ++ answers) leaves b h)
   where
     clocks : List ℕ
     clocks = option_to_list setup.clock
@@ -52,6 +54,9 @@ bound_leaf flat setup b h = last (Contains-append_cases (clocks ++ inputs ++ ech
     answers : List ℕ
     answers = flat_map (λ (mem : MemPlan). mem.answer) setup.memories
 
+    leaves : List ℕ
+    leaves = flat_map (λ (leaf : LeafPlan). leaf.bits) setup.leaves
+
     first : Contains clocks b ⊎ Contains inputs b → Leaf flat setup b
     first (inl i) = clock (some_of_list setup.clock b i)
     first (inr i) = let r = image_of_map (λ (p : InputPlan). p.bit) setup.inputs b i in input r.source r.listed r.image
@@ -60,10 +65,15 @@ bound_leaf flat setup b h = last (Contains-append_cases (clocks ++ inputs ++ ech
     second (inl i) = first (Contains-append_cases clocks inputs b i)
     second (inr i) = let r = image_of_map (λ (e : EchoPlan). e.bit) setup.echoes b i in echo r.source r.listed r.image
 
-    last : Contains (clocks ++ inputs ++ echoes) b ⊎ Contains answers b → Leaf flat setup b
-    last (inl i) = second (Contains-append_cases (clocks ++ inputs) echoes b i)
-    last (inr i) = let r = joined_of_flat_map (λ (mem : MemPlan). mem.answer) setup.memories b i in
+    third : Contains (clocks ++ inputs ++ echoes) b ⊎ Contains answers b → Leaf flat setup b
+    third (inl i) = second (Contains-append_cases (clocks ++ inputs) echoes b i)
+    third (inr i) = let r = joined_of_flat_map (λ (mem : MemPlan). mem.answer) setup.memories b i in
         let place = place_of_member r.source.answer b r.member in answer r.source r.listed place.place place.at
+
+    last : Contains (clocks ++ inputs ++ echoes ++ answers) b ⊎ Contains leaves b → Leaf flat setup b
+    last (inl i) = third (Contains-append_cases (clocks ++ inputs ++ echoes) answers b i)
+    last (inr i) = let r = joined_of_flat_map (λ (leaf : LeafPlan). leaf.bits) setup.leaves b i in
+        let place = place_of_member r.source.bits b r.member in word r.source r.listed place.place place.at
 
 pub leaf_of : (flat : Flat) (setup : Setup) → IsBound flat setup → (b : ℕ) → (IsCellBit flat b → ⊥) → Leaf flat setup b
 leaf_of flat setup bound b no_cell = go (flop_bit_or_not flat b) (input_bit_or_not flat b)
@@ -110,16 +120,32 @@ on_wire-linked : {X Y : Type 0} (R Q : X → Y → Type 0) (one : Bool → X) (o
 on_wire-linked R Q one other s u constants passes bits (Const b) = constants b
 on_wire-linked R Q one other s u constants passes bits (Bit n) = passes (s n) (u n) (bits n)
 
+-- a bit of a memory word starts as some plan says, or at public 0
+word_start-cases : (good : Start → Type 0) (words : List WordPlan)
+    → ((w : WordPlan) → Contains words w → (k : ℕ) → good (get_or w.bits k (Public false))) → (address k : ℕ)
+    → (Public false ≡ word_start words address k) ⊎ good (word_start words address k)
+word_start-cases good [] all address k = inl refl
+word_start-cases good (w ∷ words) all address k =
+    go (nat_eq w.address address) (word_start-cases good words (λ x h. all x (Contains-later w x words h)) address k)
+  where
+    go : (same : Bool) → (Public false ≡ word_start words address k) ⊎ good (word_start words address k)
+        → (Public false ≡ cond same (get_or w.bits k (Public false)) (word_start words address k))
+        ⊎ good (cond same (get_or w.bits k (Public false)) (word_start words address k))
+    go true rest = inr (all w (Contains-here w words) k)
+    go false rest = rest
+
 pub start_word-linked : {X Y : Type 0} (R : X → Y → Type 0) (one : States X) (other : States Y) (setup : Setup) (good : Start → Type 0)
     → ((b : Bool) → R (one.constant b) (other.constant b))
     → ((start : Start) → good start → R (start_state one setup.table 0 start) (start_state other setup.table 0 start))
     → (words : List WordPlan) → ((w : WordPlan) → Contains words w → (k : ℕ) → good (get_or w.bits k (Public false)))
     → (address k : ℕ) → R (start_word one setup.table words address k) (start_word other setup.table words address k)
-start_word-linked R one other setup good constants starts [] all address k = constants false
-start_word-linked R one other setup good constants starts (w ∷ words) all address k =
-    cond-linked R (nat_eq w.address address)
-    (nat_eq w.address address) _ _ _ _ refl (λ e. starts (get_or w.bits k (Public false)) (all w (Contains-here w words) k))
-    (start_word-linked R one other setup good constants starts words (λ x h. all x (Contains-later w x words h)) address k)
+start_word-linked R one other setup good constants starts words all address k =
+    go (word_start-cases good words all address k)
+  where
+    go : (Public false ≡ word_start words address k) ⊎ good (word_start words address k)
+        → R (start_word one setup.table words address k) (start_word other setup.table words address k)
+    go (inl e) = subst (λ s. R (start_state one setup.table 0 s) (start_state other setup.table 0 s)) e (constants false)
+    go (inr is) = starts (word_start words address k) is
 
 pub stored_word-linked : {X Y : Type 0} (R Q : X → Y → Type 0) (one : States X) (other : States Y) (v w : Valuation) (s : ℕ → X) (u : ℕ → Y)
     → ((b : Bool) → R (one.constant b) (other.constant b)) → ((x : X) (y : Y) → Q x y → R x y) → ((b : ℕ) → Q (s b) (u b))
@@ -150,6 +176,9 @@ first-linked one other good flat setup s u s_word u_word leaf constants starts b
         subst (λ c. leaf (s c) (u c)) e (along leaf (given_s.inputs p h) (given_u.inputs p h) (starts (entry_of p.values 0) (all.inputs p h 0)))
     go (echo p h e) = subst (λ c. leaf (s c) (u c)) e (along leaf (first_s.echoes p h) (first_u.echoes p h) (constants false))
     go (answer mem h k at) = along leaf (first_s.answers mem h k b at) (first_u.answers mem h k b at) (constants false)
+    go (word plan h k at) = along leaf (first_s.leaves plan h k b at) (first_u.leaves plan h k b at)
+        (along leaf (first_s.words plan.address k) (first_u.words plan.address k)
+        (start_word-linked leaf one other setup good constants starts setup.words all.words plan.address k))
     go (flop f h e) =
         subst (λ c. leaf (s c) (u c)) e (along leaf (first_s.flops f h) (first_u.flops f h) (starts (get_or setup.starts f.output (Public false)) (all.flops f h)))
 
@@ -184,6 +213,9 @@ next-linked one other good flat setup t v w s s' u u' s_word s_word' u_word u_wo
         subst (λ c. leaf (s' c) (u' c)) e (along leaf (given_s.inputs p h) (given_u.inputs p h) (starts (entry_of p.values t) (all.inputs p h t)))
     go (echo p h e) = subst (λ c. leaf (s' c) (u' c)) e (along leaf (next_s.echoes p h) (next_u.echoes p h) (wires p.source))
     go (answer mem h k at) = along leaf (next_s.answers mem h k b at) (next_u.answers mem h k b at) (answered mem h k)
+    go (word plan h k at) = along leaf (next_s.leaves plan h k b at) (next_u.leaves plan h k b at)
+        (stored_word-linked leaf bit one other v w s u constants passes bits setup.memories same plan.address k (s b) (u b)
+        (passes _ _ (bits b)))
     go (flop f h e) = subst (λ c. leaf (s' c) (u' c)) e (along leaf (next_s.flops f h) (next_u.flops f h) (wires f.next))
 
 -- the relation holds in every cycle

@@ -10,7 +10,7 @@ use Rattle.coco_base.specs.declared.setup.Setup.{Setup}
 use Rattle.coco_model.specs.Netlist.{wires_of, IsRanked, IsInRange, IsFlopBit, IsInputBit, IsLeaf}
 use Rattle.coco_model.specs.Reach.{Reach, Connects, IsWideReach}
 use Rattle.coco_model.specs.Reach.Connects.{here, through}
-use Rattle.coco_model.proofs.Basics.{IsSome}
+use Rattle.coco_model.proofs.Basics.{HasMember}
 use Rattle.model_laws.proofs.Lists.{some_member_or_none}
 use Rattle.model_laws.proofs.Ranks.{flop_bit_or_not, input_bit_or_not}
 use Rattle.model_laws.proofs.Ascending.{HasList, list_of}
@@ -61,7 +61,7 @@ pub record IsWireTo (flat : Flat) (clock : Option ℕ) (leaf : ℕ) (w : Wire) :
 
 pub record IsCellTo (flat : Flat) (clock : Option ℕ) (leaf bit : ℕ) (c : FlatCell) : Type 0 where
   pub drives : c.output ≡ bit
-  pub by : IsSome (IsWireTo flat clock leaf) (wires_of c)
+  pub by : HasMember (IsWireTo flat clock leaf) (wires_of c)
 
 connects_or_not : (flat : Flat) (clock : Option ℕ) (rank : ℕ → ℕ) (leaf : ℕ) → IsRanked flat rank → (b : ℕ)
     → Connects flat clock leaf b ⊎ (Connects flat clock leaf b → ⊥)
@@ -88,7 +88,7 @@ connects_or_not flat clock rank leaf ranked = by_measure rank (λ b. Connects fl
         go (inr apart) = inr (λ s. apart s.drives)
         go (inl drives) = found (some_member_or_none (IsWireTo flat clock leaf) (wires_of c) (by_wire b lower c listed drives))
           where
-            found : IsSome (IsWireTo flat clock leaf) (wires_of c) ⊎ ((w : Wire) → Contains (wires_of c) w → IsWireTo flat clock leaf w → ⊥)
+            found : HasMember (IsWireTo flat clock leaf) (wires_of c) ⊎ ((w : Wire) → Contains (wires_of c) w → IsWireTo flat clock leaf w → ⊥)
                 → IsCellTo flat clock leaf b c ⊎ (IsCellTo flat clock leaf b c → ⊥)
             found (inl s) = inl (record { drives = drives; by = s })
             found (inr none) = inr (λ s. none s.by.member s.by.listed s.by.holds)
@@ -102,7 +102,7 @@ connects_or_not flat clock rank leaf ranked = by_measure rank (λ b. Connects fl
         cell_to s =
             record { drives = s.drives; by = record { member = Bit s.from; listed = s.read; holds = record { from = s.from; is = refl; rest = s.rest } } }
 
-        from_cell : IsSome (IsCellTo flat clock leaf b) flat.cells → Connects flat clock leaf b
+        from_cell : HasMember (IsCellTo flat clock leaf b) flat.cells → Connects flat clock leaf b
         from_cell s = let w = s.holds.by in
             through b s.member w.holds.from s.listed s.holds.drives (subst (Contains (wires_of s.member)) w.holds.is w.listed) w.holds.rest
 
@@ -112,7 +112,7 @@ connects_or_not flat clock rank leaf ranked = by_measure rank (λ b. Connects fl
         either no_leaf no_step (inr s) = no_step s
 
         go : (leaf ≡ b) ⊎ (leaf ≡ b → ⊥) → IsLeaf flat clock leaf ⊎ (IsLeaf flat clock leaf → ⊥)
-            → IsSome (IsCellTo flat clock leaf b) flat.cells ⊎ ((c : FlatCell) → Contains flat.cells c → IsCellTo flat clock leaf b c → ⊥)
+            → HasMember (IsCellTo flat clock leaf b) flat.cells ⊎ ((c : FlatCell) → Contains flat.cells c → IsCellTo flat clock leaf b c → ⊥)
             → Connects flat clock leaf b ⊎ (Connects flat clock leaf b → ⊥)
         go e l (inl s) = inl (from_cell s)
         go (inl e) (inl l) (inr none) = inl (subst (Connects flat clock leaf) e (here l))

@@ -17,6 +17,7 @@ first_sources one setup = record {
   input = λ p. start_state one setup.table 0 (entry_of p.values 0);
   echo = λ e. one.constant false;
   answer = λ mem k b. one.constant false;
+  leaf = λ leaf k b. start_word one setup.table setup.words leaf.address k;
   flop = λ f. start_state one setup.table 0 (get_or setup.starts f.output (Public false));
 }
 
@@ -27,6 +28,7 @@ next_sources one setup t v old old_word = record {
   input = λ p. start_state one setup.table t (entry_of p.values t);
   echo = λ e. on_wire one.constant old e.source;
   answer = λ mem k b. cond (is_read v mem) (old_word (word_address v mem) k) (old b);
+  leaf = λ leaf k b. stored_word one v old setup.memories leaf.address k (old b);
   flop = λ f. on_wire one.constant old f.next;
 }
 
@@ -64,12 +66,14 @@ carried_exists {X} one flat setup rank f v_of ranked bound driven reads = record
       flops = (sources 0).flops;
       echoes = (sources 0).echoes;
       answers = (sources 0).answers;
+      leaves = (sources 0).leaves;
       words = λ address k. refl;
     };
     next = λ t below. record {
       flops = (sources (suc t)).flops;
       echoes = (sources (suc t)).echoes;
       answers = (sources (suc t)).answers;
+      leaves = (sources (suc t)).leaves;
       words = λ address k. refl;
     };
   };

@@ -50,11 +50,11 @@ known_run flat setup cycles rank row word checked choice v m run =
 
 pub known_law : KnownLaw
 unfolding KnownLaw
-known_law flat setup cycles rank row word checked choice v m run t below =
-    let h = known_run flat setup cycles rank row word checked choice v m run t below in (h.bits, h.words)
+known_law flat setup cycles sim choice v m run t below =
+    let h = known_run flat setup cycles sim.rank sim.row sim.word sim.is choice v m run t below in (h.bits, h.words)
 
 pub requests_law : RequestsLaw
 unfolding RequestsLaw
-requests_law flat setup cycles rank row word checked choice v m run t below =
-    known_requests flat setup (row t) (v t) checked.has_controls (checked.controls t below)
-    (known_run flat setup cycles rank row word checked choice v m run t below).bits
+requests_law flat setup cycles sim choice v m run t below =
+    known_requests flat setup (sim.row t) (v t) sim.is.has_controls (sim.is.controls t below)
+    (known_run flat setup cycles sim.rank sim.row sim.word sim.is choice v m run t below).bits

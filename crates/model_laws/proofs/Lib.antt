@@ -22,4 +22,12 @@ pub mod Settling
 pub mod Noded
 pub mod Selected
 pub mod Coned
+pub mod Windows
+pub mod WordLeaves
+pub mod Covers
+pub mod Fewer
+pub mod RankOrders
+pub mod Outcomes
+pub mod UnrolledValues
+pub mod Needed
 pub mod Securely

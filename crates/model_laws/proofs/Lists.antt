@@ -3,7 +3,7 @@ use Rattle.std.proofs.Common.{◌≡◌, ℕ, zero, suc, ◌⊎◌, inl, inr, Li
 use Rattle.std.specs.Prelude.{Contains, flat_map, slice_get, Some}
 use Rattle.std.proofs.lemmas.Bool.{cases_eq}
 use Rattle.std.proofs.lemmas.List.Elements.{Contains-append_cases, Contains-append_left, Contains-append_right}
-use Rattle.coco_model.proofs.Basics.{Contains-here, Contains-later, Contains-cases, Contains-none, IsSome}
+use Rattle.coco_model.proofs.Basics.{Contains-here, Contains-later, Contains-cases, Contains-none, HasMember}
 
 -- a member of a mapped list is the image of a member
 pub record IsImage {X Y : Type 0} (f : X → Y) (xs : List X) (y : Y) : Type 0 where
@@ -52,12 +52,12 @@ Contains-flat_map f (z ∷ xs) x y h i = go (Contains-cases z x xs h) (λ j. Con
 
 -- a list has a member of which P holds, or none, where P is decided of members
 pub some_member_or_none : {X : Type 0} (P : X → Type 0) (xs : List X) → ((x : X) → Contains xs x → P x ⊎ (P x → ⊥))
-    → IsSome P xs ⊎ ((x : X) → Contains xs x → P x → ⊥)
+    → HasMember P xs ⊎ ((x : X) → Contains xs x → P x → ⊥)
 some_member_or_none P [] decide = inr (λ x h p. Contains-none x h)
 some_member_or_none P (x ∷ xs) decide =
     go (decide x (Contains-here x xs)) (some_member_or_none P xs (λ y h. decide y (Contains-later x y xs h)))
   where
-    go : P x ⊎ (P x → ⊥) → IsSome P xs ⊎ ((y : _) → Contains xs y → P y → ⊥) → IsSome P (x ∷ xs) ⊎ ((y : _) → Contains (x ∷ xs) y → P y → ⊥)
+    go : P x ⊎ (P x → ⊥) → HasMember P xs ⊎ ((y : _) → Contains xs y → P y → ⊥) → HasMember P (x ∷ xs) ⊎ ((y : _) → Contains (x ∷ xs) y → P y → ⊥)
     go (inl p) rest = inl (record { member = x; listed = Contains-here x xs; holds = p })
     go (inr n) (inl s) = inl (record { member = s.member; listed = Contains-later x s.member xs s.listed; holds = s.holds })
     go (inr n) (inr none) = inr (λ y h p. later y p (Contains-cases x y xs h))
@@ -67,7 +67,7 @@ some_member_or_none P (x ∷ xs) decide =
         later y p (inr i) = none y i p
 
 pub some_or_none : {X : Type 0} (P : X → Type 0) → ((x : X) → P x ⊎ (P x → ⊥)) → (xs : List X)
-    → IsSome P xs ⊎ ((x : X) → Contains xs x → P x → ⊥)
+    → HasMember P xs ⊎ ((x : X) → Contains xs x → P x → ⊥)
 some_or_none P decide xs = some_member_or_none P xs (λ x h. decide x)
 
 -- P holds of every member of a list, or not of some
@@ -89,7 +89,7 @@ all_or_not P decide (x ∷ xs) = go (decide x) (all_or_not P decide xs)
 pub contains_or_not : (xs : List ℕ) (x : ℕ) → Contains xs x ⊎ (Contains xs x → ⊥)
 contains_or_not xs x = go (some_or_none (λ y. y ≡ x) (λ y. cases_eq y x) xs)
   where
-    go : IsSome (λ y. y ≡ x) xs ⊎ ((y : ℕ) → Contains xs y → y ≡ x → ⊥) → Contains xs x ⊎ (Contains xs x → ⊥)
+    go : HasMember (λ y. y ≡ x) xs ⊎ ((y : ℕ) → Contains xs y → y ≡ x → ⊥) → Contains xs x ⊎ (Contains xs x → ⊥)
     go (inl s) = inl (subst (Contains xs) s.holds s.listed)
     go (inr none) = inr (λ h. none x h refl)
 

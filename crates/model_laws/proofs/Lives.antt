@@ -17,7 +17,7 @@ use Rattle.coco_model.specs.Known.{Row, cell_parts}
 use Rattle.coco_model.specs.Reach.{IsLive, Reaches, IsReachedRow}
 use Rattle.coco_model.specs.Reach.Reaches.{here, through}
 use Rattle.coco_model.proofs.Bits.{same_or_not}
-use Rattle.coco_model.proofs.Basics.{Contains-here, Contains-cases, Contains-none, IsSome}
+use Rattle.coco_model.proofs.Basics.{Contains-here, Contains-cases, Contains-none, HasMember}
 use Rattle.coco_model.proofs.Walks.{IsAtLeaf, IsStep, walk_cases}
 use Rattle.model_laws.proofs.Lists.{Contains-map, IsImage, image_of_map, some_or_none, some_member_or_none}
 use Rattle.model_laws.proofs.Ranks.{cell_bit_or_not}
@@ -79,7 +79,7 @@ live_or_not kind ps place = go (vary_or_not (get_or ps place Zero))
     (some_or_none (λ xs. output_of kind (set xs place false) ≢ output_of kind (set xs place true)) (λ xs. not_or (same_or_not (output_of kind (set xs place false)) (output_of kind (set xs place true)))) (allowed_inputs ps))
   where
     go : (get_or ps place Zero ≡ Vary) ⊎ (get_or ps place Zero ≢ Vary)
-        → IsSome (λ xs. output_of kind (set xs place false) ≢ output_of kind (set xs place true)) (allowed_inputs ps)
+        → HasMember (λ xs. output_of kind (set xs place false) ≢ output_of kind (set xs place true)) (allowed_inputs ps)
         ⊎ ((xs : List Bool) → Contains (allowed_inputs ps) xs → output_of kind (set xs place false) ≢ output_of kind (set xs place true) → ⊥)
         → IsLiveInput kind ps place ⊎ (IsLiveInput kind ps place → ⊥)
     go (inr n) other = inr (λ live. n live.varies)
@@ -100,7 +100,7 @@ forces_or_not kind ps c =
     settle xs none (inl e) = e
     settle xs none (inr n) = absurd (none n)
 
-    go : IsSome (λ xs. output_of kind xs ≢ c) (allowed_inputs ps)
+    go : HasMember (λ xs. output_of kind xs ≢ c) (allowed_inputs ps)
         ⊎ ((xs : List Bool) → Contains (allowed_inputs ps) xs → output_of kind xs ≢ c → ⊥) → Forces kind ps c ⊎ (Forces kind ps c → ⊥)
     go (inl s) = inr (λ forces. s.holds (forces s.member (listed_allowed ps s.member s.listed)))
     go (inr none) = inl (λ xs allowed. settle xs (none xs (allowed_listed ps xs allowed)) (same_or_not (output_of kind xs) c))
@@ -223,7 +223,7 @@ reaches_or_not flat rank calm leaf ranked = by_measure rank (λ b. Reaches flat 
         either no_leaf no_step (inr s) = no_step s
 
         go : IsAtLeaf flat calm leaf b ⊎ (IsAtLeaf flat calm leaf b → ⊥) → (calm b ≡ Vary) ⊎ (calm b ≢ Vary)
-            → IsSome (IsStepBy flat calm leaf b) flat.cells ⊎ ((c : FlatCell) → Contains flat.cells c → IsStepBy flat calm leaf b c → ⊥)
+            → HasMember (IsStepBy flat calm leaf b) flat.cells ⊎ ((c : FlatCell) → Contains flat.cells c → IsStepBy flat calm leaf b c → ⊥)
             → Reaches flat calm leaf b ⊎ (Reaches flat calm leaf b → ⊥)
         go (inl a) v s = inl (subst (Reaches flat calm leaf) a.same (here a.no_cell a.varies))
         go (inr no_leaf) (inr known) s = inr (λ walk. either no_leaf (λ t. known t.varies) (walk_cases flat calm leaf b walk))

@@ -170,32 +170,32 @@ gate_is_node flat index row root t c listed own (Gate kind parts operands) h = (
 
 pub unrolled_law : UnrolledLaw
 unfolding UnrolledLaw
-unrolled_law flat setup cycles rank row word checked range root rooted is_rooted index apart node node_word unrolled nodes same = record {
-  each = λ t b below inside. subst (IsNodeOf flat index row root t b) (sym (same t b below inside))
-      (by_driver flat (λ b. IsNodeOf flat index row root t b (node t b))
-      (λ b none. leaf_is_node flat index row root t b (node t b)
-      ((leaf_nodes flat setup cycles rank row word checked range root rooted is_rooted index node node_word unrolled t below).leaves b none))
+unrolled_law flat setup cycles sim range root rooted is_rooted index apart node node_word unrolled nodes same = record {
+  each = λ t b below inside. subst (IsNodeOf flat index sim.row root t b) (sym (same t b below inside))
+      (by_driver flat (λ b. IsNodeOf flat index sim.row root t b (node t b))
+      (λ b none. leaf_is_node flat index sim.row root t b (node t b)
+      ((leaf_nodes flat setup cycles sim.rank sim.row sim.word sim.is range root rooted is_rooted index node node_word unrolled t below).leaves b none))
       (λ c listed. cell t below c listed) b);
   apart = apart;
 }
   where
     cell : (t : ℕ) → t < cycles → (c : FlatCell) → Contains flat.cells c
-        → IsNodeOf flat index row root t c.output (node t c.output)
-    cell t below c listed = go (vary_or_not (row t c.output)) (kept_or_not row root t c)
+        → IsNodeOf flat index sim.row root t c.output (node t c.output)
+    cell t below c listed = go (vary_or_not (sim.row t c.output)) (kept_or_not sim.row root t c)
       where
-        has : HasCellNode index row root t c (node t c.output)
+        has : HasCellNode index sim.row root t c (node t c.output)
         has = unrolled.cells t below c listed
 
-        root_is : HasCellRoot row root t c
+        root_is : HasCellRoot sim.row root t c
         root_is = is_rooted.cells t below c listed
 
-        known : IsNothingWhereKnown (row t c.output) (root t c.output)
-        known = (nothing_where_known flat setup cycles rank row word checked root rooted is_rooted t below).bits c.output
+        known : IsNothingWhereKnown (sim.row t c.output) (root t c.output)
+        known = (nothing_where_known flat setup cycles sim.rank sim.row sim.word sim.is root rooted is_rooted t below).bits c.output
 
-        go : (row t c.output ≡ Vary) ⊎ (row t c.output ≢ Vary) → IsKept row root t c ⊎ (IsKept row root t c → ⊥)
-            → IsNodeOf flat index row root t c.output (node t c.output)
-        go (inr n) kept = subst (IsNodeOf flat index row root t c.output) (sym (has.known n)) (root_is.known n)
-        go (inl varies) (inl kept) = subst (IsNodeOf flat index row root t c.output) (sym (has.kept varies kept))
-            (before t, c.output, before_earlier row root t c kept, range.outputs c listed, refl, (λ e. known.known_if e varies), root_is.kept varies kept)
+        go : (sim.row t c.output ≡ Vary) ⊎ (sim.row t c.output ≢ Vary) → IsKept sim.row root t c ⊎ (IsKept sim.row root t c → ⊥)
+            → IsNodeOf flat index sim.row root t c.output (node t c.output)
+        go (inr n) kept = subst (IsNodeOf flat index sim.row root t c.output) (sym (has.known n)) (root_is.known n)
+        go (inl varies) (inl kept) = subst (IsNodeOf flat index sim.row root t c.output) (sym (has.kept varies kept))
+            (before t, c.output, before_earlier sim.row root t c kept, range.outputs c listed, refl, (λ e. known.known_if e varies), root_is.kept varies kept)
         go (inl varies) (inr own) =
-            gate_is_node flat index row root t c listed (root_is.own varies own) (node t c.output) (has.own varies own)
+            gate_is_node flat index sim.row root t c listed (root_is.own varies own) (node t c.output) (has.own varies own)

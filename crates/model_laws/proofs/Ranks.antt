@@ -7,13 +7,13 @@ use Rattle.coco_base.specs.declared.netlist.FlatCell.{FlatCell}
 use Rattle.coco_base.specs.declared.netlist.FlatFlop.{FlatFlop}
 use Rattle.coco_base.specs.declared.netlist.Wire.TheVariants.{Bit}
 use Rattle.coco_model.specs.Netlist.{wires_of, IsCellBit, IsFlopBit, IsInputBit, input_bits, IsRanked}
-use Rattle.coco_model.proofs.Basics.{IsSome, some_from_any, any_from_member}
+use Rattle.coco_model.proofs.Basics.{HasMember, some_from_any, any_from_member}
 use Rattle.model_laws.proofs.Lists.{some_or_none, contains_or_not}
 
 pub any_or_none : {X : Type 0} (P : X → Type 0) → ((x : X) → P x ⊎ (P x → ⊥)) → (xs : _) → Any P xs ⊎ (Any P xs → ⊥)
 any_or_none P decide xs = go (some_or_none P decide xs)
   where
-    go : IsSome P xs ⊎ ((x : _) → Contains xs x → P x → ⊥) → Any P xs ⊎ (Any P xs → ⊥)
+    go : HasMember P xs ⊎ ((x : _) → Contains xs x → P x → ⊥) → Any P xs ⊎ (Any P xs → ⊥)
     go (inl s) = inl (any_from_member P xs s.member s.listed s.holds)
     go (inr none) = inr (λ h. let s = some_from_any P xs h in none s.member s.listed s.holds)
 

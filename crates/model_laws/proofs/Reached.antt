@@ -20,8 +20,8 @@ one_known : (flat : Flat) (setup : Setup) (cycles : ℕ) (rank : ℕ → ℕ) �
     → (reach other : Reach) → (r : IsReach flat setup cycles reach) (s : IsReach flat setup cycles other) → (t : ℕ) → t < cycles → (b : ℕ)
     → r.row t b ≡ s.row t b
 unfolding OneKnownLaw
-one_known flat setup cycles rank ranked bound reach other r s =
-    one_known_law flat setup cycles rank ranked bound r.row s.row r.word s.word r.known s.known
+one_known flat setup cycles rank ranked bound reach other r s t below =
+    (one_known_law flat setup cycles rank ranked bound r.row s.row r.word s.word r.known s.known t below).0
 
 one_calm : (flat : Flat) (setup : Setup) (cycles : ℕ) (rank : ℕ → ℕ) → IsRanked flat rank → IsBound flat setup
     → (reach other : Reach) → (r : IsReach flat setup cycles reach) (s : IsReach flat setup cycles other) → (t : ℕ) → t < cycles

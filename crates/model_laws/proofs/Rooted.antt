@@ -329,16 +329,16 @@ root_earlier flat setup cycles rank row word checked starts root rooted is_roote
 
 pub root_law : RootLaw
 unfolding RootLaw
-root_law flat setup cycles rank row word checked starts root rooted is_rooted t b below = (
-  (λ choice v m run varies. ((root_values flat setup cycles rank row word checked root rooted is_rooted choice v m run t below).bits b).value (λ e. known_nothing.known_if e varies)),
+root_law flat setup cycles sim starts root rooted is_rooted t b below = (
+  (λ choice v m run varies. ((root_values flat setup cycles sim.rank sim.row sim.word sim.is root rooted is_rooted choice v m run t below).bits b).value (λ e. known_nothing.known_if e varies)),
   known_nothing.nothing_if,
   known_nothing.known_if,
   record {
-    labels = ((roots_below flat setup cycles rank row word checked starts root rooted is_rooted t below).bits b).labels;
-    earlier = root_earlier flat setup cycles rank row word checked starts root rooted is_rooted t below b;
-    cells = ((roots_below flat setup cycles rank row word checked starts root rooted is_rooted t below).bits b).cells;
+    labels = ((roots_below flat setup cycles sim.rank sim.row sim.word sim.is starts root rooted is_rooted t below).bits b).labels;
+    earlier = root_earlier flat setup cycles sim.rank sim.row sim.word sim.is starts root rooted is_rooted t below b;
+    cells = ((roots_below flat setup cycles sim.rank sim.row sim.word sim.is starts root rooted is_rooted t below).bits b).cells;
   },
 )
   where
-    known_nothing : IsNothingWhereKnown (row t b) (root t b)
-    known_nothing = (nothing_where_known flat setup cycles rank row word checked root rooted is_rooted t below).bits b
+    known_nothing : IsNothingWhereKnown (sim.row t b) (root t b)
+    known_nothing = (nothing_where_known flat setup cycles sim.rank sim.row sim.word sim.is root rooted is_rooted t below).bits b

@@ -9,8 +9,9 @@ use Rattle.coco_model.specs.Netlist.{Valuation}
 use Rattle.coco_model.specs.Labels.{Choice, choices_with, same_bits}
 use Rattle.coco_model.specs.Run.{before}
 use Rattle.coco_model.specs.Reach.{Reach}
-use Rattle.coco_model.specs.Secure.{observation, count_showing, IsSecureFor, IsSecure, IsWidelySecure}
+use Rattle.coco_model.specs.Secure.{IsProbe, moments, observation, count_showing, IsSecureFor, IsSecure, IsWidelySecure}
 use Rattle.coco_model.proofs.Basics.{Contains-here, Contains-later}
+use Rattle.model_laws.proofs.Windows.{moments-probes}
 use Rattle.model_laws.proofs.Reached.{one_reach_law, one_wide_reach_law}
 use Rattle.model_laws.specs.Laws.{OneReachLaw, OneWideReachLaw, SecureLaw, WidelySecureLaw}
 
@@ -38,21 +39,26 @@ count-same setup cycles reach other run probes same secrets seen =
 -- security goes from one reach to another that is the same where probes can be
 secure-same : (flat : Flat) (setup : Setup) (cycles : ℕ) (reach other : Reach)
     → ((t b : ℕ) → t < cycles → b < flat.bits → reach t b ≡ other t b)
-    → (d : ℕ) → IsSecureFor flat setup cycles reach d → IsSecureFor flat setup cycles other d
+    → (window d : ℕ) → IsSecureFor flat setup cycles window reach d → IsSecureFor flat setup cycles window other d
 unfolding IsSecureFor
-secure-same flat setup cycles reach other same d secure run memory runs probes few each secrets others count count' seen =
+secure-same flat setup cycles reach other same window d secure run memory runs probes few each secrets others count count' seen =
     sym (counts secrets) ∙ secure run memory runs probes few each secrets others count count' seen ∙ counts others
   where
+    all : (p : Probe) → Contains (moments cycles window probes) p → IsProbe flat.bits setup.clock cycles p
+    all = moments-probes flat.bits setup.clock cycles window probes each
+
     counts : (values : List Bool)
-        → count_showing setup cycles reach run probes values seen ≡ count_showing setup cycles other run probes values seen
-    counts values = count-same setup cycles reach other run probes (λ p h. same p.cycle p.bit (each p h).cycle (each p h).bit) values seen
+        → count_showing setup cycles reach run (moments cycles window probes) values seen
+        ≡ count_showing setup cycles other run (moments cycles window probes) values seen
+    counts values = count-same setup cycles reach other run (moments cycles window probes)
+        (λ p h. same p.cycle p.bit (all p h).cycle (all p h).bit) values seen
 
 pub secure_law : SecureLaw
 unfolding SecureLaw IsSecure OneReachLaw
-secure_law flat setup cycles rank ranked bound reach is_reach d secure other is_other =
-    secure-same flat setup cycles reach other (one_reach_law flat setup cycles rank ranked bound reach other is_reach is_other) d secure
+secure_law flat setup cycles rank ranked bound reach is_reach window d secure other is_other =
+    secure-same flat setup cycles reach other (one_reach_law flat setup cycles rank ranked bound reach other is_reach is_other) window d secure
 
 pub widely_secure_law : WidelySecureLaw
 unfolding WidelySecureLaw IsWidelySecure OneWideReachLaw
 widely_secure_law flat setup cycles reach is_reach d secure other is_other =
-    secure-same flat setup cycles reach other (one_wide_reach_law flat setup cycles reach other is_reach is_other) d secure
+    secure-same flat setup cycles reach other (one_wide_reach_law flat setup cycles reach other is_reach is_other) 1 d secure

@@ -8,6 +8,7 @@ use Rattle.coco_base.specs.declared.netlist.FlatFlop.{FlatFlop}
 use Rattle.coco_base.specs.declared.setup.InputPlan.{InputPlan}
 use Rattle.coco_base.specs.declared.setup.EchoPlan.{EchoPlan}
 use Rattle.coco_base.specs.declared.setup.MemPlan.{MemPlan}
+use Rattle.coco_base.specs.declared.setup.LeafPlan.{LeafPlan}
 use Rattle.coco_base.specs.declared.setup.Setup.{Setup}
 use Rattle.coco_model.specs.Netlist.{HasOneDriver, HasNoRepeat, IsUndriven, IsInputBit, IsCellBit, input_bits}
 use Rattle.coco_model.specs.Carried.{IsBound, bound_bits}
@@ -21,6 +22,7 @@ pub record Sources (X : Type 0) : Type 0 where
   pub input : InputPlan → X
   pub echo : EchoPlan → X
   pub answer : MemPlan → ℕ → ℕ → X
+  pub leaf : LeafPlan → ℕ → ℕ → X
   pub flop : FlatFlop → X
 
 -- states of leaves are as the sources say
@@ -31,6 +33,8 @@ pub record HasSources {X : Type 0} (flat : Flat) (setup : Setup) (sources : Sour
   pub echoes : (e : EchoPlan) → Contains setup.echoes e → state e.bit ≡ sources.echo e
   pub answers : (mem : MemPlan) → Contains setup.memories mem → (k b : ℕ) → slice_get mem.answer k ≡ Some b
       → state b ≡ sources.answer mem k b
+  pub leaves : (leaf : LeafPlan) → Contains setup.leaves leaf → (k b : ℕ) → slice_get leaf.bits k ≡ Some b
+      → state b ≡ sources.leaf leaf k b
   pub flops : (f : FlatFlop) → Contains flat.flops f → state f.output ≡ sources.flop f
 
 abbrev answer_entries : {X : Type 0} → (ℕ → ℕ → X) → ℕ → List ℕ → List (Entry X)
@@ -54,12 +58,13 @@ answer_listed f j (a ∷ bs) (suc k) b e =
     Contains-later (record { bit = a; state = f j a }) (record { bit = b; state = f (j + suc k) b }) (answer_entries f (suc j) bs)
     (subst (λ i. Contains (answer_entries f (suc j) bs) (record { bit = b; state = f i b })) z (answer_listed f (suc j) bs k b e))
 
--- where a list is joined from five, the bits of its members
+-- where a list is joined from six, the bits of its members
 pub record Parts (X : Type 0) : Type 0 where
   pub clock : List (Entry X)
   pub inputs : List (Entry X)
   pub echoes : List (Entry X)
   pub answers : List (Entry X)
+  pub leaves : List (Entry X)
   pub flops : List (Entry X)
 
 abbrev parts_of : {X : Type 0} → Flat → Setup → Sources X → Parts X
@@ -68,11 +73,12 @@ parts_of flat setup s = record {
   inputs = map (λ (p : InputPlan). record { bit = p.bit; state = s.input p }) setup.inputs;
   echoes = map (λ (e : EchoPlan). record { bit = e.bit; state = s.echo e }) setup.echoes;
   answers = flat_map (λ (mem : MemPlan). answer_entries (s.answer mem) 0 mem.answer) setup.memories;
+  leaves = flat_map (λ (leaf : LeafPlan). answer_entries (s.leaf leaf) 0 leaf.bits) setup.leaves;
   flops = map (λ (f : FlatFlop). record { bit = f.output; state = s.flop f }) flat.flops;
 }
 
 abbrev joined : {X : Type 0} → Parts X → List (Entry X)
-joined p = p.clock ++ p.inputs ++ p.echoes ++ p.answers ++ p.flops
+joined p = p.clock ++ p.inputs ++ p.echoes ++ p.answers ++ p.leaves ++ p.flops
 
 pub leaf_state : {X : Type 0} → Flat → Setup → Sources X → ℕ → X
 leaf_state flat setup s b = look s.still (joined (parts_of flat setup s)) b
@@ -90,10 +96,11 @@ clock_bits x (b ∷ bs) = ap (λ rest. b ∷ rest) (clock_bits x bs)
 joined_bits : {X : Type 0} (flat : Flat) (setup : Setup) (s : Sources X)
     → bits_of (joined (parts_of flat setup s)) ≡ bound_bits setup ++ flop_outputs flat
 joined_bits {X} flat setup s =
-    bits_of-append (p.clock ++ p.inputs ++ p.echoes ++ p.answers) p.flops
-    ∙ ap (λ bs. bs ++ bits_of p.flops) (bits_of-append (p.clock ++ p.inputs ++ p.echoes) p.answers)
-    ∙ ap (λ bs. bs ++ bits_of p.answers ++ bits_of p.flops) (bits_of-append (p.clock ++ p.inputs) p.echoes)
-    ∙ ap (λ bs. bs ++ bits_of p.echoes ++ bits_of p.answers ++ bits_of p.flops) (bits_of-append p.clock p.inputs)
+    bits_of-append (p.clock ++ p.inputs ++ p.echoes ++ p.answers ++ p.leaves) p.flops
+    ∙ ap (λ bs. bs ++ bits_of p.flops) (bits_of-append (p.clock ++ p.inputs ++ p.echoes ++ p.answers) p.leaves)
+    ∙ ap (λ bs. bs ++ bits_of p.leaves ++ bits_of p.flops) (bits_of-append (p.clock ++ p.inputs ++ p.echoes) p.answers)
+    ∙ ap (λ bs. bs ++ bits_of p.answers ++ bits_of p.leaves ++ bits_of p.flops) (bits_of-append (p.clock ++ p.inputs) p.echoes)
+    ∙ ap (λ bs. bs ++ bits_of p.echoes ++ bits_of p.answers ++ bits_of p.leaves ++ bits_of p.flops) (bits_of-append p.clock p.inputs)
     ∙ same
   where
     p : Parts X
@@ -113,12 +120,17 @@ joined_bits {X} flat setup s =
         bits_of-flat_map (λ (mem : MemPlan). answer_entries (s.answer mem) 0 mem.answer) (λ (mem : MemPlan). mem.answer)
         (λ mem. answer_bits (s.answer mem) 0 mem.answer) setup.memories
 
+    leaves : bits_of p.leaves ≡ flat_map (λ (leaf : LeafPlan). leaf.bits) setup.leaves
+    leaves =
+        bits_of-flat_map (λ (leaf : LeafPlan). answer_entries (s.leaf leaf) 0 leaf.bits) (λ (leaf : LeafPlan). leaf.bits)
+        (λ leaf. answer_bits (s.leaf leaf) 0 leaf.bits) setup.leaves
+
     flops : bits_of p.flops ≡ flop_outputs flat
     flops = bits_of-map (λ (f : FlatFlop). record { bit = f.output; state = s.flop f }) (λ (f : FlatFlop). f.output) (λ x. refl) flat.flops
 
-    same : bits_of p.clock ++ bits_of p.inputs ++ bits_of p.echoes ++ bits_of p.answers ++ bits_of p.flops ≡ bound_bits setup
-        ++ flop_outputs flat
-    same = let a = clock in let b = inputs in let c = echoes in let d = answers in let e = flops in cc
+    same : bits_of p.clock ++ bits_of p.inputs ++ bits_of p.echoes ++ bits_of p.answers ++ bits_of p.leaves ++ bits_of p.flops
+        ≡ bound_bits setup ++ flop_outputs flat
+    same = let a = clock in let b = inputs in let c = echoes in let d = answers in let e = leaves in let f = flops in cc
 
 driven_apart : (flat : Flat) → HasOneDriver flat → AreApart (input_bits flat ++ cell_outputs flat) (flop_outputs flat)
 driven_apart flat driven = apart_parts (input_bits flat ++ cell_outputs flat) (flop_outputs flat) driven.once
@@ -148,9 +160,9 @@ joined_once flat setup s bound driven =
 pub leaf_states : {X : Type 0} (flat : Flat) (setup : Setup) (s : Sources X) → IsBound flat setup → HasOneDriver flat → (state : ℕ → X)
     → ((b : ℕ) → (IsCellBit flat b → ⊥) → state b ≡ leaf_state flat setup s b) → HasSources flat setup s state
 unfolding leaf_state
-leaf_states {X} flat setup s bound driven state leaves = record {
+leaf_states {X} flat setup s bound driven state stand = record {
   undriven =
-      λ b u. leaves b u.no_cell
+      λ b u. stand b u.no_cell
       ∙ look-none s.still (joined p) b (λ h. no_bit b u (subst (λ bs. Contains bs b) (joined_bits flat setup s) h));
   clock = λ b e. at_input b s.still (bound.only b (in_clock b e)) (first b (in_first b e));
   inputs = λ q h. at_input q.bit (s.input q) (bound.only q.bit (in_inputs q h))
@@ -162,9 +174,14 @@ leaf_states {X} flat setup s bound driven state leaves = record {
       (Contains-flat_map (λ (m : MemPlan). answer_entries (s.answer m) 0 m.answer) setup.memories mem (record { bit = b; state = s.answer mem k b }) h
       (let z : 0 + k ≡ k = omega arith in subst (λ i. Contains (answer_entries (s.answer mem) 0 mem.answer) (record { bit = b; state = s.answer mem i b })) z
       (answer_listed (s.answer mem) 0 mem.answer k b at))));
-  flops = λ f h. leaves f.output (flop_no_cell flat driven f h)
+  leaves = λ leaf h k b at. at_input b (s.leaf leaf k b) (bound.only b (in_leaves leaf h k b at))
+      (fifth (record { bit = b; state = s.leaf leaf k b })
+      (Contains-flat_map (λ (l : LeafPlan). answer_entries (s.leaf l) 0 l.bits) setup.leaves leaf (record { bit = b; state = s.leaf leaf k b }) h
+      (let z : 0 + k ≡ k = omega arith in subst (λ i. Contains (answer_entries (s.leaf leaf) 0 leaf.bits) (record { bit = b; state = s.leaf leaf i b })) z
+      (answer_listed (s.leaf leaf) 0 leaf.bits k b at))));
+  flops = λ f h. stand f.output (flop_no_cell flat driven f h)
       ∙ look-listed s.still (joined p) once (record { bit = f.output; state = s.flop f })
-      (Contains-append_right (p.clock ++ p.inputs ++ p.echoes ++ p.answers) p.flops _ (Contains-map (λ (g : FlatFlop). record { bit = g.output; state = s.flop g }) flat.flops f h));
+      (Contains-append_right (p.clock ++ p.inputs ++ p.echoes ++ p.answers ++ p.leaves) p.flops _ (Contains-map (λ (g : FlatFlop). record { bit = g.output; state = s.flop g }) flat.flops f h));
 }
   where
     p : Parts X
@@ -175,15 +192,23 @@ leaf_states {X} flat setup s bound driven state leaves = record {
 
     at_input : (b : ℕ) (x : X) → IsInputBit flat b → Contains (joined p) (record { bit = b; state = x }) → state b ≡ x
     at_input b x input h =
-        leaves b (input_no_cell flat driven b input) ∙ look-listed s.still (joined p) once (record { bit = b; state = x }) h
+        stand b (input_no_cell flat driven b input) ∙ look-listed s.still (joined p) once (record { bit = b; state = x }) h
+
+    fifth : (e : Entry X) → Contains p.leaves e → Contains (joined p) e
+    fifth e h =
+        Contains-append_left (p.clock ++ p.inputs ++ p.echoes ++ p.answers ++ p.leaves) p.flops e
+        (Contains-append_right (p.clock ++ p.inputs ++ p.echoes ++ p.answers) p.leaves e h)
+
+    late : (e : Entry X) → Contains (p.clock ++ p.inputs ++ p.echoes ++ p.answers) e → Contains (joined p) e
+    late e h =
+        Contains-append_left (p.clock ++ p.inputs ++ p.echoes ++ p.answers ++ p.leaves) p.flops e
+        (Contains-append_left (p.clock ++ p.inputs ++ p.echoes ++ p.answers) p.leaves e h)
 
     fourth : (e : Entry X) → Contains p.answers e → Contains (joined p) e
-    fourth e h =
-        Contains-append_left (p.clock ++ p.inputs ++ p.echoes ++ p.answers) p.flops e (Contains-append_right (p.clock ++ p.inputs ++ p.echoes) p.answers e h)
+    fourth e h = late e (Contains-append_right (p.clock ++ p.inputs ++ p.echoes) p.answers e h)
 
     early : (e : Entry X) → Contains (p.clock ++ p.inputs ++ p.echoes) e → Contains (joined p) e
-    early e h =
-        Contains-append_left (p.clock ++ p.inputs ++ p.echoes ++ p.answers) p.flops e (Contains-append_left (p.clock ++ p.inputs ++ p.echoes) p.answers e h)
+    early e h = late e (Contains-append_left (p.clock ++ p.inputs ++ p.echoes) p.answers e h)
 
     third : (e : Entry X) → Contains p.echoes e → Contains (joined p) e
     third e h = early e (Contains-append_right (p.clock ++ p.inputs) p.echoes e h)
@@ -213,22 +238,34 @@ leaf_states {X} flat setup s bound driven state leaves = record {
     answer_list : List ℕ
     answer_list = flat_map (λ (mem : MemPlan). mem.answer) setup.memories
 
+    leaf_list : List ℕ
+    leaf_list = flat_map (λ (leaf : LeafPlan). leaf.bits) setup.leaves
+
+    in_port : (b : ℕ) → Contains (clocks ++ input_list ++ echo_list ++ answer_list) b → Contains (bound_bits setup) b
+    in_port b h = Contains-append_left (clocks ++ input_list ++ echo_list ++ answer_list) leaf_list b h
+
+    in_early : (b : ℕ) → Contains (clocks ++ input_list ++ echo_list) b → Contains (bound_bits setup) b
+    in_early b h = in_port b (Contains-append_left (clocks ++ input_list ++ echo_list) answer_list b h)
+
     in_clock : (b : ℕ) → setup.clock ≡ Some b → Contains (bound_bits setup) b
-    in_clock b e =
-        Contains-append_left (clocks ++ input_list ++ echo_list) answer_list b (Contains-append_left (clocks ++ input_list) echo_list b (Contains-append_left clocks input_list b (in_option setup.clock b e)))
+    in_clock b e = in_early b
+        (Contains-append_left (clocks ++ input_list) echo_list b (Contains-append_left clocks input_list b (in_option setup.clock b e)))
 
     in_inputs : (q : InputPlan) → Contains setup.inputs q → Contains (bound_bits setup) q.bit
-    in_inputs q h =
-        Contains-append_left (clocks ++ input_list ++ echo_list) answer_list q.bit (Contains-append_left (clocks ++ input_list) echo_list q.bit
+    in_inputs q h = in_early q.bit (Contains-append_left (clocks ++ input_list) echo_list q.bit
         (Contains-append_right clocks input_list q.bit (Contains-map (λ (x : InputPlan). x.bit) setup.inputs q h)))
 
     in_echoes : (e : EchoPlan) → Contains setup.echoes e → Contains (bound_bits setup) e.bit
-    in_echoes e h = Contains-append_left (clocks ++ input_list ++ echo_list) answer_list e.bit
+    in_echoes e h = in_early e.bit
         (Contains-append_right (clocks ++ input_list) echo_list e.bit (Contains-map (λ (x : EchoPlan). x.bit) setup.echoes e h))
 
     in_answers : (mem : MemPlan) → Contains setup.memories mem → (k b : ℕ) → slice_get mem.answer k ≡ Some b → Contains (bound_bits setup) b
-    in_answers mem h k b at = Contains-append_right (clocks ++ input_list ++ echo_list) answer_list b
-        (Contains-flat_map (λ (m : MemPlan). m.answer) setup.memories mem b h (member_of_place mem.answer k b at))
+    in_answers mem h k b at = in_port b (Contains-append_right (clocks ++ input_list ++ echo_list) answer_list b
+        (Contains-flat_map (λ (m : MemPlan). m.answer) setup.memories mem b h (member_of_place mem.answer k b at)))
+
+    in_leaves : (leaf : LeafPlan) → Contains setup.leaves leaf → (k b : ℕ) → slice_get leaf.bits k ≡ Some b → Contains (bound_bits setup) b
+    in_leaves leaf h k b at = Contains-append_right (clocks ++ input_list ++ echo_list ++ answer_list) leaf_list b
+        (Contains-flat_map (λ (l : LeafPlan). l.bits) setup.leaves leaf b h (member_of_place leaf.bits k b at))
 
     no_bit : (b : ℕ) → IsUndriven flat b → Contains (bound_bits setup ++ flop_outputs flat) b → ⊥
     no_bit b u h = go (Contains-append_cases (bound_bits setup) (flop_outputs flat) b h)

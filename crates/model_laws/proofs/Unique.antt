@@ -14,8 +14,8 @@ use Rattle.coco_model.specs.Netlist.{Valuation, wires_of, IsRanked}
 use Rattle.coco_model.specs.Labels.{Choice}
 use Rattle.coco_model.specs.Carried.{IsBound}
 use Rattle.coco_model.specs.Run.{Memory, IsRun, values, before}
-use Rattle.coco_model.specs.Known.{Row, ones, parts, wire_part}
-use Rattle.coco_model.specs.Roots.{Root, roots, wire_root, IsSteady, IsKept, HasCellRoot}
+use Rattle.coco_model.specs.Known.{Row, ones, parts, wire_part, IsKnown}
+use Rattle.coco_model.specs.Roots.{Root, roots, wire_root, IsSteady, IsKept, HasCellRoot, IsRooted}
 use Rattle.coco_model.specs.Roots.Root.{nothing, label, output}
 use Rattle.std.proofs.lemmas.Bool.{cases_eq}
 use Rattle.model_laws.proofs.Lists.{all_or_not}
@@ -61,10 +61,12 @@ one_run_law flat setup cycles rank ranked bound choice v w m n run_v run_w = rec
   words = λ t below. (one_run flat setup cycles rank ranked bound choice v w m n run_v run_w t below).words;
 }
 
-pub one_known_law : OneKnownLaw
-unfolding OneKnownLaw
-one_known_law flat setup cycles rank ranked bound row other word others known known_other t below =
-    (carried-linked parts parts IsAnyStart flat setup cycles (λ t. ones (row t)) (λ t. ones (other t)) row other word others (λ _ a b. a ≡ b) (λ _ a b. a ≡ b) bound (any_starts flat setup)
+one_known : (flat : Flat) (setup : Setup) (cycles : ℕ) (rank : ℕ → ℕ) → IsRanked flat rank → IsBound flat setup
+    → (row other : ℕ → Row) (word others : ℕ → ℕ → Row) → IsKnown flat setup cycles row word
+    → IsKnown flat setup cycles other others
+    → (t : ℕ) → t < cycles → IsLinked flat (row t) (other t) (word t) (others t) (λ a b. a ≡ b) (λ a b. a ≡ b)
+one_known flat setup cycles rank ranked bound row other word others known known_other =
+    carried-linked parts parts IsAnyStart flat setup cycles (λ t. ones (row t)) (λ t. ones (other t)) row other word others (λ _ a b. a ≡ b) (λ _ a b. a ≡ b) bound (any_starts flat setup)
     (record {
       constants = λ t b. refl;
       starts = λ t below start any. refl;
@@ -75,7 +77,12 @@ one_known_law flat setup cycles rank ranked bound row other word others known kn
       stays = λ t x y h. h;
       requests = λ t below same mem listed. same_requests (ones (row t)) (ones (other t)) (ap ones (fun_ext same)) mem;
     })
-    known.carried known_other.carried t below).bits
+    known.carried known_other.carried
+
+pub one_known_law : OneKnownLaw
+unfolding OneKnownLaw
+one_known_law flat setup cycles rank ranked bound row other word others known known_other t below =
+    let h = one_known flat setup cycles rank ranked bound row other word others known known_other t below in (h.bits, h.words)
 
 pub wire_root-cong : (s u : ℕ → Root) (w : Wire) → ((b : ℕ) → w ≡ Bit b → s b ≡ u b) → wire_root s w ≡ wire_root u w
 wire_root-cong s u (Const b) same = refl
@@ -117,7 +124,7 @@ Root_same (output s b) (output t c) = go (cases_eq s t) (cases_eq b c)
     go (inl e) (inr n) = inr (λ f. n cc)
     go (inr n) f = inr (λ e. n cc)
 
-Part_same : (p q : Part) → (p ≡ q) ⊎ (p ≢ q)
+pub Part_same : (p q : Part) → (p ≡ q) ⊎ (p ≢ q)
 Part_same Zero Zero = inl refl
 Part_same One One = inl refl
 Part_same Vary Vary = inl refl
@@ -162,10 +169,12 @@ one_cell_root row root other t c has has_other same lower = go (vary_or_not (row
     go (inl varies) (inr own) = has.own varies own ∙ sym (has_other.own varies
         (λ kept. own (kept_also row other root t c (λ b h. sym (same b h)) (λ r below b. sym (lower r below b)) kept)))
 
-pub one_rooted_law : OneRootedLaw
-unfolding OneRootedLaw
-one_rooted_law flat setup cycles rank ranked bound row root other word others rooted rooted_other t below =
-    (carried-linked roots roots IsAnyStart flat setup cycles (λ t. ones (row t)) (λ t. ones (row t)) root other word others (λ _ a b. a ≡ b) (λ _ a b. a ≡ b) bound (any_starts flat setup)
+one_rooted : (flat : Flat) (setup : Setup) (cycles : ℕ) (rank : ℕ → ℕ) → IsRanked flat rank → IsBound flat setup
+    → (row : ℕ → Row) (root other : ℕ → ℕ → Root) (word others : ℕ → ℕ → ℕ → Root)
+    → IsRooted flat setup cycles row root word → IsRooted flat setup cycles row other others
+    → (t : ℕ) → t < cycles → IsLinked flat (root t) (other t) (word t) (others t) (λ a b. a ≡ b) (λ a b. a ≡ b)
+one_rooted flat setup cycles rank ranked bound row root other word others rooted rooted_other =
+    carried-linked roots roots IsAnyStart flat setup cycles (λ t. ones (row t)) (λ t. ones (row t)) root other word others (λ _ a b. a ≡ b) (λ _ a b. a ≡ b) bound (any_starts flat setup)
     (record {
       constants = λ t b. refl;
       starts = λ t below start any. refl;
@@ -175,4 +184,9 @@ one_rooted_law flat setup cycles rank ranked bound row root other word others ro
       stays = λ t x y h. h;
       requests = λ t below same mem listed. same_requests (ones (row t)) (ones (row t)) refl mem;
     })
-    rooted.carried rooted_other.carried t below).bits
+    rooted.carried rooted_other.carried
+
+pub one_rooted_law : OneRootedLaw
+unfolding OneRootedLaw
+one_rooted_law flat setup cycles rank ranked bound row root other word others rooted rooted_other t below =
+    let h = one_rooted flat setup cycles rank ranked bound row root other word others rooted rooted_other t below in (h.bits, h.words)

@@ -1,8 +1,9 @@
 -- The laws of runs, as facts that contracts name.
-use Rattle.std.specs.Prelude.{◌≡◌, ◌≢◌, ℕ, ◌<◌, ◌≤◌, Bool, true, List, [], ◌++◌, map, Contains, ◌⊎◌, ◌↔◌}
+use Rattle.std.specs.Prelude.{◌≡◌, ◌≢◌, ℕ, ◌<◌, ◌≤◌, Bool, true, List, [], ◌++◌, map, Contains, slice_get, Some, ◌⊎◌, ◌↔◌}
 use Rattle.coco_base.specs.declared.netlist.Flat.{Flat}
 use Rattle.coco_base.specs.declared.cell.Part.TheVariants.{Vary}
 use Rattle.coco_base.specs.declared.setup.MemPlan.{MemPlan}
+use Rattle.coco_base.specs.declared.setup.LeafPlan.{LeafPlan}
 use Rattle.coco_base.specs.declared.setup.Setup.{Setup}
 use Rattle.coco_base.specs.declared.unrolled.Node.{Node}
 use Rattle.coco_model.specs.Cells.{Allows}
@@ -36,10 +37,11 @@ pub record HasSettled (flat : Flat) (leaves : Valuation) : Type 0 where
   pub settled : IsSettled flat valuation
   pub agrees : (b : ℕ) → IsFlopBit flat b ⊎ IsInputBit flat b → valuation b ≡ leaves b
 
--- a netlist without loops and with one driver for each bit has a settled valuation for all values of the bits that input
--- ports and flops drive
+-- a netlist without loops and with one driver for each bit has a settled valuation for all values of the bits that
+-- input ports and flops drive
 unfoldable pub SomeSettledLaw : Type 0
-SomeSettledLaw = (flat : Flat) (rank : ℕ → ℕ) → IsRanked flat rank → HasOneDriver flat → (leaves : Valuation) → HasSettled flat leaves
+SomeSettledLaw = (flat : Flat) (rank : ℕ → ℕ) → IsRanked flat rank → HasOneDriver flat → (leaves : Valuation)
+    → HasSettled flat leaves
 
 -- two rows that are forced and agree on the bits that no cell drives are one
 unfoldable pub OneForcedLaw : Type 0
@@ -57,14 +59,35 @@ pub record IsChecked (flat : Flat) (setup : Setup) (cycles : ℕ) (rank : ℕ �
   pub known : IsKnown flat setup cycles row word
   pub controls : (t : ℕ) → t < cycles → AreControlsKnown setup (row t)
 
+-- a run that is simulated with every control known: a rank by which cells make no loop, and what is known of bits and
+-- of memory words
+pub record CheckedRun (flat : Flat) (setup : Setup) (cycles : ℕ) : Type 0 where
+  pub rank : ℕ → ℕ
+  pub row : ℕ → Row
+  pub word : ℕ → ℕ → Row
+  pub is : IsChecked flat setup cycles rank row word
+
 -- what is known of a bit, or of a bit of a memory word, is its value in every run
 unfoldable pub KnownLaw : Type 0
 KnownLaw =
-    (flat : Flat) (setup : Setup) (cycles : ℕ) (rank : ℕ → ℕ) (row : ℕ → Row) (word : ℕ → ℕ → Row)
-    → IsChecked flat setup cycles rank row word
+    (flat : Flat) (setup : Setup) (cycles : ℕ) (sim : CheckedRun flat setup cycles)
     → (choice : Choice) (v : ℕ → Valuation) (m : ℕ → Memory) → IsRun flat setup cycles choice v m
     → (t : ℕ) → t < cycles
-    → ((b : ℕ) → Allows (row t b) (v t b)) × ((address k : ℕ) → Allows (word t address k) (m t address k))
+    → ((b : ℕ) → Allows (sim.row t b) (v t b)) × ((address k : ℕ) → Allows (sim.word t address k) (m t address k))
+
+-- a bit of a word leaf has in each cycle what its word's bit has: in every run, in what is known, and in the roots
+pub record IsAsWord (flat : Flat) (setup : Setup) (cycles : ℕ) (address k t b : ℕ) : Type 0 where
+  pub runs : (choice : Choice) (v : ℕ → Valuation) (m : ℕ → Memory) → IsRun flat setup cycles choice v m
+      → v t b ≡ m t address k
+  pub known : (row : ℕ → Row) (word : ℕ → ℕ → Row) → IsKnown flat setup cycles row word → row t b ≡ word t address k
+  pub roots : (row : ℕ → Row) (root : ℕ → ℕ → Root) (word : ℕ → ℕ → ℕ → Root)
+      → IsRooted flat setup cycles row root word → root t b ≡ word t address k
+
+unfoldable pub WordLeafLaw : Type 0
+WordLeafLaw =
+    (flat : Flat) (setup : Setup) (cycles : ℕ) (leaf : LeafPlan) → Contains setup.leaves leaf
+    → (k b : ℕ) → slice_get leaf.bits k ≡ Some b → (t : ℕ) → t < cycles
+    → IsAsWord flat setup cycles leaf.address k t b
 
 -- what the memory ports are known to do they do in every run
 pub record AreSameRequests (v w : Valuation) (mem : MemPlan) : Type 0 where
@@ -74,18 +97,17 @@ pub record AreSameRequests (v w : Valuation) (mem : MemPlan) : Type 0 where
 
 unfoldable pub RequestsLaw : Type 0
 RequestsLaw =
-    (flat : Flat) (setup : Setup) (cycles : ℕ) (rank : ℕ → ℕ) (row : ℕ → Row) (word : ℕ → ℕ → Row)
-    → IsChecked flat setup cycles rank row word
+    (flat : Flat) (setup : Setup) (cycles : ℕ) (sim : CheckedRun flat setup cycles)
     → (choice : Choice) (v : ℕ → Valuation) (m : ℕ → Memory) → IsRun flat setup cycles choice v m
-    → (t : ℕ) → t < cycles → (mem : MemPlan) → Contains setup.memories mem → AreSameRequests (ones (row t)) (v t) mem
+    → (t : ℕ) → t < cycles → (mem : MemPlan) → Contains setup.memories mem
+    → AreSameRequests (ones (sim.row t)) (v t) mem
 
 -- under every schedule a calm bit has its calm value at every moment
 unfoldable pub CalmLaw : Type 0
 CalmLaw =
-    (flat : Flat) (setup : Setup) (cycles : ℕ) (rank : ℕ → ℕ) (row : ℕ → Row) (word : ℕ → ℕ → Row)
-    → IsChecked flat setup cycles rank row word
+    (flat : Flat) (setup : Setup) (cycles : ℕ) (sim : CheckedRun flat setup cycles)
     → (choice : Choice) (v : ℕ → Valuation) (m : ℕ → Memory) → IsRun flat setup cycles choice v m
-    → (t : ℕ) → t < cycles → (calm : Row) → IsCalm flat (row (before t)) (row t) calm
+    → (t : ℕ) → t < cycles → (calm : Row) → IsCalm flat (sim.row (before t)) (sim.row t) calm
     → (events : List Event) (b : ℕ) (x : Bool) → Contains (waveform flat (v t) b (v (before t)) events) x
     → Allows (calm b) x
 
@@ -93,11 +115,10 @@ CalmLaw =
 -- every schedule
 unfoldable pub WaveformLaw : Type 0
 WaveformLaw =
-    (flat : Flat) (setup : Setup) (cycles : ℕ) (rank : ℕ → ℕ) (row : ℕ → Row) (word : ℕ → ℕ → Row)
-    → IsChecked flat setup cycles rank row word
+    (flat : Flat) (setup : Setup) (cycles : ℕ) (sim : CheckedRun flat setup cycles)
     → (one other : Choice) (v w : ℕ → Valuation) (m n : ℕ → Memory) → IsRun flat setup cycles one v m
     → IsRun flat setup cycles other w n
-    → (t : ℕ) → t < cycles → (calm : Row) → IsCalm flat (row (before t)) (row t) calm
+    → (t : ℕ) → t < cycles → (calm : Row) → IsCalm flat (sim.row (before t)) (sim.row t) calm
     → (b : ℕ)
     → ((leaf : ℕ) → Reaches flat calm leaf b → (v (before t) leaf ≡ w (before t) leaf) × (v t leaf ≡ w t leaf))
     → (events : List Event) → waveform flat (v t) b (v (before t)) events ≡ waveform flat (w t) b (w (before t)) events
@@ -111,13 +132,13 @@ pub record IsRootInRange (flat : Flat) (count t b : ℕ) (root : Root) : Type 0 
 -- an unknown bit has in every run the value of its root, and the root of a known bit is nothing
 unfoldable pub RootLaw : Type 0
 RootLaw =
-    (flat : Flat) (setup : Setup) (cycles : ℕ) (rank : ℕ → ℕ) (row : ℕ → Row) (word : ℕ → ℕ → Row)
-    → IsChecked flat setup cycles rank row word
+    (flat : Flat) (setup : Setup) (cycles : ℕ) (sim : CheckedRun flat setup cycles)
     → AreStarts (IsLabelled setup.table) flat setup
-    → (root : ℕ → ℕ → Root) (rooted : ℕ → ℕ → ℕ → Root) → IsRooted flat setup cycles row root rooted
+    → (root : ℕ → ℕ → Root) (rooted : ℕ → ℕ → ℕ → Root) → IsRooted flat setup cycles sim.row root rooted
     → (t b : ℕ) → t < cycles
-    → ((choice : Choice) (v : ℕ → Valuation) (m : ℕ → Memory) → IsRun flat setup cycles choice v m → row t b ≡ Vary → v t b ≡ root_value choice v (root t b))
-    × (row t b ≢ Vary → root t b ≡ nothing) × (root t b ≡ nothing → row t b ≢ Vary)
+    → ((choice : Choice) (v : ℕ → Valuation) (m : ℕ → Memory) → IsRun flat setup cycles choice v m
+    → sim.row t b ≡ Vary → v t b ≡ root_value choice v (root t b))
+    × (sim.row t b ≢ Vary → root t b ≡ nothing) × (root t b ≡ nothing → sim.row t b ≢ Vary)
     × IsRootInRange flat (label_count setup.table cycles) t b (root t b)
 
 -- two runs of one choice are one
@@ -132,20 +153,22 @@ OneRunLaw =
     → IsRun flat setup cycles choice w n
     → AreSameRuns cycles v w m n
 
--- what is known is one, and so are the roots
+-- what is known of bits and of memory words is one, and so are the roots
 unfoldable pub OneKnownLaw : Type 0
 OneKnownLaw =
     (flat : Flat) (setup : Setup) (cycles : ℕ) (rank : ℕ → ℕ) → IsRanked flat rank → IsBound flat setup
     → (row other : ℕ → Row) (word others : ℕ → ℕ → Row) → IsKnown flat setup cycles row word
     → IsKnown flat setup cycles other others
-    → (t : ℕ) → t < cycles → (b : ℕ) → row t b ≡ other t b
+    → (t : ℕ) → t < cycles
+    → ((b : ℕ) → row t b ≡ other t b) × ((address k : ℕ) → word t address k ≡ others t address k)
 
 unfoldable pub OneRootedLaw : Type 0
 OneRootedLaw =
     (flat : Flat) (setup : Setup) (cycles : ℕ) (rank : ℕ → ℕ) → IsRanked flat rank → IsBound flat setup
     → (row : ℕ → Row) (root other : ℕ → ℕ → Root) (word others : ℕ → ℕ → ℕ → Root)
     → IsRooted flat setup cycles row root word → IsRooted flat setup cycles row other others
-    → (t : ℕ) → t < cycles → (b : ℕ) → root t b ≡ other t b
+    → (t : ℕ) → t < cycles
+    → ((b : ℕ) → root t b ≡ other t b) × ((address k : ℕ) → word t address k ≡ others t address k)
 
 -- what a probe reaches is one
 unfoldable pub OneReachLaw : Type 0
@@ -185,14 +208,14 @@ EndLaw =
 -- numbered nodes of the bits of a run stand for its roots
 unfoldable pub UnrolledLaw : Type 0
 UnrolledLaw =
-    (flat : Flat) (setup : Setup) (cycles : ℕ) (rank : ℕ → ℕ) (row : ℕ → Row) (word : ℕ → ℕ → Row)
-    → IsChecked flat setup cycles rank row word
+    (flat : Flat) (setup : Setup) (cycles : ℕ) (sim : CheckedRun flat setup cycles)
     → IsInRange flat
-    → (root : ℕ → ℕ → Root) (rooted : ℕ → ℕ → ℕ → Root) → IsRooted flat setup cycles row root rooted
+    → (root : ℕ → ℕ → Root) (rooted : ℕ → ℕ → ℕ → Root) → IsRooted flat setup cycles sim.row root rooted
     → (index : ℕ → ℕ → ℕ) → ((t b s c : ℕ) → b < flat.bits → c < flat.bits → index t b ≡ index s c → (t ≡ s) × (b ≡ c))
-    → (node : ℕ → ℕ → Node) (node_word : ℕ → ℕ → ℕ → Node) → IsUnrolled flat setup cycles index row root node node_word
+    → (node : ℕ → ℕ → Node) (node_word : ℕ → ℕ → ℕ → Node)
+    → IsUnrolled flat setup cycles index sim.row root node node_word
     → (nodes : ℕ → Node) → ((t b : ℕ) → t < cycles → b < flat.bits → nodes (index t b) ≡ node t b)
-    → AreNodesOf flat cycles index row root nodes
+    → AreNodesOf flat cycles index sim.row root nodes
 
 -- nodes that stand for the roots: two that lead to one origin have one root, and one whose root is an output leads to
 -- that output's
@@ -254,11 +277,11 @@ ConesLaw =
 unfoldable pub SecureLaw : Type 0
 SecureLaw =
     (flat : Flat) (setup : Setup) (cycles : ℕ) (rank : ℕ → ℕ) → IsRanked flat rank → IsBound flat setup
-    → (reach : Reach) → IsReach flat setup cycles reach → (d : ℕ) → IsSecureFor flat setup cycles reach d
-    → IsSecure flat setup cycles d
+    → (reach : Reach) → IsReach flat setup cycles reach → (window d : ℕ) → IsSecureFor flat setup cycles window reach d
+    → IsSecure flat setup cycles window d
 
 -- the same for the coarser reach
 unfoldable pub WidelySecureLaw : Type 0
 WidelySecureLaw =
     (flat : Flat) (setup : Setup) (cycles : ℕ) (reach : Reach) → IsWideReach flat setup cycles reach
-    → (d : ℕ) → IsSecureFor flat setup cycles reach d → IsWidelySecure flat setup cycles d
+    → (d : ℕ) → IsSecureFor flat setup cycles 1 reach d → IsWidelySecure flat setup cycles d

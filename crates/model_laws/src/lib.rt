@@ -1,15 +1,18 @@
-//! The laws of runs, each the contract of a function that does nothing: what is settled, known, calm, reached and rooted.
+//! The laws of runs, each the contract of a function that does nothing: what is settled, known, calm, reached and
+//! rooted.
 #![tactic(auto)]
 
-ghost use Rattle.model_laws.specs.Laws.{OneSettledLaw, SomeSettledLaw, OneForcedLaw, KnownLaw, RequestsLaw, CalmLaw, WaveformLaw, RootLaw, OneRunLaw, OneKnownLaw, OneRootedLaw, OneReachLaw, OneWideReachLaw, NarrowReachLaw, SecureLaw, WidelySecureLaw, MeaningLaw, EndLaw, UnrolledLaw, NodesLaw, NodeSetsLaw, RootSetsLaw, ConesLaw};
+ghost use Rattle.model_laws.specs.NodeLaws.{UnrolledRunLaw, MattersLaw};
+ghost use Rattle.model_laws.specs.RunLaws.{GoodCycleLaw, OneOutcomeLaw, FewerCyclesLaw, RankOrderLaw, OneCycleLaw, CoveredWindowLaw};
+ghost use Rattle.model_laws.specs.Laws.{OneSettledLaw, SomeSettledLaw, OneForcedLaw, KnownLaw, RequestsLaw, WordLeafLaw, CalmLaw, WaveformLaw, RootLaw, OneRunLaw, OneKnownLaw, OneRootedLaw, OneReachLaw, OneWideReachLaw, NarrowReachLaw, SecureLaw, WidelySecureLaw, MeaningLaw, EndLaw, UnrolledLaw, NodesLaw, NodeSetsLaw, RootSetsLaw, ConesLaw};
 
 /// Two settled valuations that agree on the bits that no cell drives are one, where no cells make a loop.
 pub fn one_settled_law()
     ensures { OneSettledLaw }
 {}
 
-/// A netlist without loops and with one driver for each bit has a settled valuation for all values of the bits that input
-/// ports and flops drive.
+/// A netlist without loops and with one driver for each bit has a settled valuation for all values of the bits that
+/// input ports and flops drive.
 pub fn some_settled_law()
     ensures { SomeSettledLaw }
 {}
@@ -27,6 +30,11 @@ pub fn known_law()
 /// Every run reads, addresses and stores what is known of the memory ports.
 pub fn requests_law()
     ensures { RequestsLaw }
+{}
+
+/// A bit of a word leaf has in each cycle what its word's bit has.
+pub fn word_leaf_law()
+    ensures { WordLeafLaw }
 {}
 
 /// Under every schedule of gate events a calm bit has its calm value at every moment.
@@ -86,8 +94,8 @@ pub fn widely_secure_law()
     ensures { WidelySecureLaw }
 {}
 
-/// A netlist without loops, with one driver for each bit and with numbers in range, and a setup that binds its inputs, have
-/// runs, known values, roots and reaches.
+/// A netlist without loops, with one driver for each bit and with numbers in range, and a setup that binds its
+/// inputs, have runs, known values, roots and reaches.
 pub fn meaning_law()
     ensures { MeaningLaw }
 {}
@@ -120,4 +128,45 @@ pub fn root_sets_law()
 /// The cone of a node is the cone of the root that it stands for.
 pub fn cones_law()
     ensures { ConesLaw }
+{}
+
+/// A good cycle has none of the three faults.
+pub fn good_cycle_law()
+    ensures { GoodCycleLaw }
+{}
+
+/// A cycle is good or has one first fault, and never two of them.
+pub fn one_outcome_law()
+    ensures { OneOutcomeLaw }
+{}
+
+/// What holds of a run, of what is known and of the roots over some cycles holds over fewer.
+pub fn fewer_cycles_law()
+    ensures { FewerCyclesLaw }
+{}
+
+/// The numbers of all cells by rank are an order of cells.
+pub fn rank_order_law()
+    ensures { RankOrderLaw }
+{}
+
+/// Probes that last one cycle are their own moments.
+pub fn one_cycle_law()
+    ensures { OneCycleLaw }
+{}
+
+/// A run that is covered for one window is covered for each.
+pub fn covered_window_law()
+    ensures { CoveredWindowLaw }
+{}
+
+/// The nodes of an unrolled run stand for the roots of the run and tell which bits are unknown; those of bits that no
+/// cell drives are no gates.
+pub fn unrolled_run_law()
+    ensures { UnrolledRunLaw }
+{}
+
+/// A node that does not matter never takes part: the sets of all other nodes are the same whatever it chooses.
+pub fn matters_law()
+    ensures { MattersLaw }
 {}
