@@ -29,7 +29,7 @@ chosen_set-parity sets [] os l = refl
 chosen_set-parity sets (s ∷ ss) [] l = refl
 chosen_set-parity sets (s ∷ ss) (o ∷ os) l = rw (chosen_set-parity sets ss os l) refl
 
-chosen_set-cong : (sets other : ℕ → Labels) (ss : Subset) (os : List ℕ) (l : ℕ)
+pub chosen_set-cong : (sets other : ℕ → Labels) (ss : Subset) (os : List ℕ) (l : ℕ)
     → ((place : ℕ) → place < length os → get_or ss place false ≡ true → sets (get_or os place 0) l ≡ other (get_or os place 0) l)
     → chosen_set sets ss os l ≡ chosen_set other ss os l
 chosen_set-cong sets other [] os l e = refl
@@ -95,7 +95,7 @@ gate_set n kind parts operands ss before subset sum = record {
   };
 }
 
-one_not_zero : (b : Bool) → signed b (pos 1) ≢ pos 0
+pub one_not_zero : (b : Bool) → signed b (pos 1) ≢ pos 0
 one_not_zero true e = omega (arith, ints)
 one_not_zero false e = omega (arith, ints)
 

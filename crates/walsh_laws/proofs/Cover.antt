@@ -10,9 +10,11 @@ use Rattle.coco_model.specs.Labels.{parity, secret_labels}
 use Rattle.coco_model.specs.Known.{Row}
 use Rattle.coco_model.specs.Reach.{Reach, IsReach}
 use Rattle.coco_model.specs.Roots.{Root, IsRooted}
-use Rattle.coco_model.specs.Secure.{IsProbe}
+use Rattle.coco_model.specs.Secure.{IsProbe, lasting, moments}
 use Rattle.coco_model.specs.Cones.{IsInProbeCone, IsCovered}
 use Rattle.coco_model.proofs.Basics.{Contains-here, Contains-later}
+use Rattle.model_laws.proofs.Lists.{joined_of_flat_map}
+use Rattle.model_laws.proofs.Windows.{moments-probes}
 use Rattle.walsh_laws.specs.Security.{IsSimulated}
 use Rattle.walsh_laws.specs.Covered.{HasFindingOver, CoverLaw}
 use Rattle.walsh_laws.proofs.Ready.{ready_of, AreReached, reached_of}
@@ -34,31 +36,41 @@ covered_by : (flat : Flat) (setup : Setup) (cycles : ℕ) (rank : ℕ → ℕ) (
     → IsSimulated flat setup cycles rank row word
     → (root : ℕ → ℕ → Root) (rooted : ℕ → ℕ → ℕ → Root) → IsRooted flat setup cycles row root rooted
     → (reach : Reach) → IsReach flat setup cycles reach
-    → (d : ℕ) → HasFindingOver flat setup cycles d row reach root → IsCovered flat setup cycles row reach root
-covered_by flat setup cycles rank row word simulated root rooted is_rooted reach is d h =
+    → (window d : ℕ) → HasFindingOver flat setup cycles window d row reach root → IsCovered flat setup cycles window row reach root
+covered_by flat setup cycles rank row word simulated root rooted is_rooted reach is window d h =
     go (h.finding.whole.no_mask h.finding.member h.finding.not_empty)
   where
     are_reached : AreReached flat setup cycles row is.calm reach
     are_reached = reached_of flat setup cycles rank row word simulated reach is
 
+    lasts : List Probe
+    lasts = moments cycles window h.probes
+
+    all : (p : Probe) → Contains lasts p → IsProbe flat.bits setup.clock cycles p
+    all = moments-probes flat.bits setup.clock cycles window h.probes h.finding.each
+
     in_cone : (l : ℕ) → (u : Probe) × Contains h.pairs u × (h.set_of (root u.cycle u.bit) l ≡ true)
-        → (probe : Probe) × IsProbe flat setup cycles probe × IsInProbeCone flat row reach root probe l
-    in_cone l (u, listed, has) = let s = h.finding.seen u listed in (
-      s.probe,
-      h.finding.each s.probe s.listed,
-      record {
-        leaf = u.bit;
-        cycle = u.cycle;
-        shows = s.shows;
-        member = root_cone flat setup cycles rank row word root rooted
-            (ready_of flat setup cycles rank row word simulated root rooted is_rooted) h.set_of h.finding.selection u.cycle u.bit l
-            (seen_cycle flat setup cycles row reach h.probes h.finding.each u s)
-            (seen_inside flat setup cycles simulated.range row is.calm reach are_reached row h.probes h.finding.each u s) has;
-      },
-    )
+        → (probe : Probe) × IsProbe flat.bits setup.clock cycles probe × IsInProbeCone flat cycles window row reach root probe l
+    in_cone l (u, listed, has) =
+        let s = h.finding.seen u listed in
+        let r = joined_of_flat_map (lasting cycles window) h.probes s.probe s.listed in (
+          r.source,
+          h.finding.each r.source r.listed,
+          record {
+            moment = s.probe;
+            lasts = r.member;
+            leaf = u.bit;
+            cycle = u.cycle;
+            shows = s.shows;
+            member = root_cone flat setup cycles rank row word root rooted
+                (ready_of flat setup cycles rank row word simulated root rooted is_rooted) h.set_of h.finding.selection u.cycle u.bit l
+                (seen_cycle flat setup cycles row reach lasts all u s)
+                (seen_inside flat setup cycles simulated.range row is.calm reach are_reached row lasts all u s) has;
+          },
+        )
 
     go : (shares : List ℕ) × Contains (secret_labels setup.table.secrets) shares × Contains shares h.finding.member
-        → IsCovered flat setup cycles row reach root
+        → IsCovered flat setup cycles window row reach root
     go (shares, secret, member) = record {
       shares = shares;
       secret = secret;
@@ -68,6 +80,6 @@ covered_by flat setup cycles rank row word simulated root rooted is_rooted reach
 
 pub cover_law : CoverLaw
 unfolding CoverLaw
-cover_law flat setup cycles rank row word simulated root rooted is_rooted reach is d h =
-    covered_by flat setup cycles rank row word simulated root rooted is_rooted reach is d
-    (one_finding flat setup cycles rank row word simulated root rooted is_rooted reach is d h)
+cover_law flat setup cycles sim root rooted is_rooted reach is window d h =
+    covered_by flat setup cycles sim.rank sim.row sim.word sim.is root rooted is_rooted reach is window d
+    (one_finding flat setup cycles sim.rank sim.row sim.word sim.is root rooted is_rooted reach is window d h)

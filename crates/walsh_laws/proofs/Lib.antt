@@ -25,3 +25,5 @@ pub mod OneShare
 pub mod Sorting
 pub mod NodeNumbers
 pub mod Writing
+mod UnrolledFindings
+mod NeededTries

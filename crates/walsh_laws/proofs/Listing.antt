@@ -5,7 +5,7 @@ use Rattle.std.proofs.lemmas.Bool.{cases_Bool, cases_eq, false≢true}
 use Rattle.coco_base.specs.declared.finding.Probe.{Probe}
 use Rattle.coco_model.specs.Netlist.{HasNoRepeat}
 use Rattle.coco_model.specs.Labels.{parity}
-use Rattle.coco_model.proofs.Basics.{Contains-here, Contains-later, Contains-cases, Contains-none, IsSome}
+use Rattle.coco_model.proofs.Basics.{Contains-here, Contains-later, Contains-cases, Contains-none, HasMember}
 use Rattle.model_laws.proofs.Lists.{some_or_none}
 use Rattle.walsh_laws.specs.Sums.{parity_below}
 
@@ -83,7 +83,7 @@ Probe_same p q = go (cases_eq p.bit q.bit) (cases_eq p.cycle q.cycle)
 probe_in_or_not : (ps : List Probe) (p : Probe) → Contains ps p ⊎ (Contains ps p → ⊥)
 probe_in_or_not ps p = go (some_or_none (λ q. q ≡ p) (λ q. Probe_same q p) ps)
   where
-    go : IsSome (λ q. q ≡ p) ps ⊎ ((q : Probe) → Contains ps q → q ≡ p → ⊥) → Contains ps p ⊎ (Contains ps p → ⊥)
+    go : HasMember (λ q. q ≡ p) ps ⊎ ((q : Probe) → Contains ps q → q ≡ p → ⊥) → Contains ps p ⊎ (Contains ps p → ⊥)
     go (inl s) = inl (subst (Contains ps) s.holds s.listed)
     go (inr none) = inr (λ h. none p h refl)
 

@@ -23,7 +23,7 @@ bit_is : (s : Bool) → nat_eq (cond s 1 0) 1 ≡ s
 bit_is true = refl
 bit_is false = refl
 
-subset-number : (ss : Subset) → subset_of_number (length ss) (number_of_subset ss) ≡ ss
+pub subset-number : (ss : Subset) → subset_of_number (length ss) (number_of_subset ss) ≡ ss
 subset-number [] = refl
 subset-number (s ∷ ss) =
     ap (λ b. nat_eq b 1 ∷ subset_of_number (length ss) ((number_of_subset ss * 2 + cond s 1 0) / 2))
@@ -31,7 +31,7 @@ subset-number (s ∷ ss) =
     ∙ ap (λ n. nat_eq (cond s 1 0) 1 ∷ subset_of_number (length ss) n) (div-mul-add (number_of_subset ss) 2 (cond s 1 0) (bit_below s))
     ∙ ap (λ b. b ∷ subset_of_number (length ss) (number_of_subset ss)) (bit_is s) ∙ ap (λ rest. s ∷ rest) (subset-number ss)
 
-number-below : (ss : Subset) → number_of_subset ss < 2 ^ length ss
+pub number-below : (ss : Subset) → number_of_subset ss < 2 ^ length ss
 number-below [] = lit≤ tt
 number-below (s ∷ ss) = rw (pow-suc 2 (length ss)) (let e = number-below ss in let b = bit_below s in omega arith)
 

@@ -1,5 +1,5 @@
 -- A finding over one meaning of a run is one over what was simulated.
-use Rattle.std.proofs.Common.{◌≡◌, ℕ, zero, suc, ◌<◌, sym, ◌∙◌, ap, subst, arith}
+use Rattle.std.proofs.Common.{◌≡◌, ℕ, zero, suc, ◌<◌, List, sym, ◌∙◌, ap, subst, arith}
 use Rattle.std.specs.Prelude.{Contains}
 use Rattle.std.proofs.Math.Path.{fun_ext}
 use Rattle.coco_base.specs.declared.netlist.Flat.{Flat}
@@ -11,11 +11,13 @@ use Rattle.coco_model.specs.Carried.{IsNext}
 use Rattle.coco_model.specs.Run.{before}
 use Rattle.coco_model.specs.Known.{Row, ones}
 use Rattle.coco_model.specs.Reach.{Reach, IsReach}
+use Rattle.coco_model.specs.Secure.{IsProbe, moments}
 use Rattle.coco_model.specs.Roots.{Root, roots, IsSteady, IsKept, HasCellRoot, IsRooted}
 use Rattle.coco_model.specs.Roots.Root.{output}
 use Rattle.coco_model.specs.Findings.{IsChosen, IsSelection, IsSeen, IsWhole, set_of_pairs, HasFinding}
 use Rattle.coco_model.proofs.Keepers.{before_below}
 use Rattle.model_laws.proofs.Unique.{one_rooted_law}
+use Rattle.model_laws.proofs.Windows.{moments-probes}
 use Rattle.model_laws.proofs.Reached.{one_reach_law}
 use Rattle.model_laws.specs.Laws.{OneRootedLaw, OneReachLaw}
 use Rattle.walsh_laws.specs.Security.{IsSimulated}
@@ -58,9 +60,9 @@ pub one_finding : (flat : Flat) (setup : Setup) (cycles : ℕ) (rank : ℕ → �
     → IsSimulated flat setup cycles rank row word
     → (root : ℕ → ℕ → Root) (rooted : ℕ → ℕ → ℕ → Root) → IsRooted flat setup cycles row root rooted
     → (reach : Reach) → IsReach flat setup cycles reach
-    → (d : ℕ) → HasFinding flat setup cycles d → HasFindingOver flat setup cycles d row reach root
+    → (window d : ℕ) → HasFinding flat setup cycles window d → HasFindingOver flat setup cycles window d row reach root
 unfolding OneRootedLaw OneReachLaw
-one_finding flat setup cycles rank row word simulated root rooted is_rooted reach is d h = record {
+one_finding flat setup cycles rank row word simulated root rooted is_rooted reach is window d h = record {
   probes = h.probes;
   pairs = h.pairs;
   set_of = h.set_of;
@@ -84,7 +86,7 @@ one_finding flat setup cycles rank row word simulated root rooted is_rooted reac
     roots_same : (t : ℕ) → t < cycles → root t ≡ h.root t
     roots_same t below = fun_ext (one_rooted_law flat setup cycles rank simulated.ranked simulated.bound_to.bound row root h.root
         rooted h.rooted_word is_rooted (rooted_by flat setup cycles h.row row h.root h.rooted_word (λ s b. sym (rows s b)) h.rooted) t
-        below)
+        below).0
 
     is_reach : IsReach flat setup cycles h.reach
     is_reach = record { row = h.row; word = h.word; calm = h.calm; known = h.known; still = h.still; reached = h.reached }
@@ -102,24 +104,30 @@ one_finding flat setup cycles rank row word simulated root rooted is_rooted reac
           (h.finding.selection.outputs t below c listed (ap (λ r. r c.output) (sym (roots_same t below)) ∙ own)));
     }
 
-    seen : (u : Probe) → IsSeen h.row h.reach h.probes u → IsSeen row reach h.probes u
+    lasts : List Probe
+    lasts = moments cycles window h.probes
+
+    all : (p : Probe) → Contains lasts p → IsProbe flat.bits setup.clock cycles p
+    all = moments-probes flat.bits setup.clock cycles window h.probes h.finding.each
+
+    seen : (u : Probe) → IsSeen h.row h.reach lasts u → IsSeen row reach lasts u
     seen u s = record {
       probe = s.probe;
       listed = s.listed;
       shows = record {
         reached = subst (λ ls. Contains ls u.bit)
-            (sym (reach_same s.probe.cycle s.probe.bit (h.finding.each s.probe s.listed).cycle (h.finding.each s.probe s.listed).bit))
+            (sym (reach_same s.probe.cycle s.probe.bit (all s.probe s.listed).cycle (all s.probe s.listed).bit))
             s.shows.reached;
         when = s.shows.when;
       };
-      unknown = ap (λ r. r u.bit) (rows u.cycle (seen_cycle flat setup cycles h.row h.reach h.probes h.finding.each u s)) ∙ s.unknown;
+      unknown = ap (λ r. r u.bit) (rows u.cycle (seen_cycle flat setup cycles h.row h.reach lasts all u s)) ∙ s.unknown;
     }
 
     same : (l : ℕ) → set_of_pairs root h.set_of h.pairs l ≡ set_of_pairs h.root h.set_of h.pairs l
     same l = ap parity (map-cong (λ (u : Probe). h.set_of (root u.cycle u.bit) l) (λ (u : Probe). h.set_of (h.root u.cycle u.bit) l) h.pairs
         (λ u i. ap (λ r. h.set_of (r u.bit) l)
-        (roots_same u.cycle (seen_cycle flat setup cycles h.row h.reach h.probes h.finding.each u (h.finding.seen u i)))))
+        (roots_same u.cycle (seen_cycle flat setup cycles h.row h.reach lasts all u (h.finding.seen u i)))))
 
 pub one_finding_law : OneFindingLaw
 unfolding OneFindingLaw
-one_finding_law = one_finding
+one_finding_law flat setup cycles sim = one_finding flat setup cycles sim.rank sim.row sim.word sim.is

@@ -17,11 +17,12 @@ use Rattle.coco_model.specs.Netlist.{IsUndriven, IsRanked, HasOneDriver, IsInRan
 use Rattle.coco_model.specs.Labels.{IsLabelTable, secret_labels}
 use Rattle.coco_model.specs.Carried.{IsLabelled}
 use Rattle.coco_model.specs.Setups.{IsClock, IsBoundTo}
-use Rattle.coco_model.specs.Secure.{IsSecure}
+use Rattle.coco_model.specs.Secure.{IsSecure, moments}
 use Rattle.coco_model.specs.Roots.Root.{label}
 use Rattle.coco_model.specs.Findings.{HasFinding}
 use Rattle.coco_model.specs.Examples.{input_port, keeper, one_register, one_secret}
-use Rattle.coco_model.proofs.Basics.{Contains-here, Contains-later, Contains-cases, Contains-none, some_from_any}
+use Rattle.coco_model.proofs.Basics.{Contains-here, Contains-later, Contains-cases, Contains-none, only_member, some_from_any}
+use Rattle.model_laws.proofs.Windows.{moments-probes}
 use Rattle.model_laws.proofs.Meanings.{meaning_law}
 use Rattle.coco_model.specs.Meaning.{HasMeaning}
 use Rattle.model_laws.specs.Laws.{MeaningLaw}
@@ -30,14 +31,6 @@ use Rattle.walsh_laws.specs.Examples.{one_share_setup}
 use Rattle.walsh_laws.proofs.NoFinding.{no_finding_law}
 use Rattle.walsh_laws.proofs.RunCounting.{seen_cycle}
 use Rattle.walsh_laws.proofs.Cover.{odd_member}
-
--- what holds of the one member of a list holds of each
-only_member : {X : Type 0} (P : X → Type 0) (x : X) → P x → (y : X) → Contains (x ∷ []) y → P y
-only_member P x p y h = go (Contains-cases x y [] h)
-  where
-    go : (x ≡ y) ⊎ Contains [] y → P y
-    go (inl e) = subst P e p
-    go (inr none) = absurd (Contains-none y none)
 
 number_apart : (a b : ℕ) → a ≢ b → Contains (a ∷ []) b → ⊥
 number_apart a b n h = n (only_member (λ c. a ≡ c) a refl b h)
@@ -69,7 +62,6 @@ table name = record {
   wide = only_member (λ (s : SecretPlan). 0 < s.width) _ (lit≤ tt);
   shared = only_member (λ (s : SecretPlan). 0 < s.shares) _ (lit≤ tt);
   mask_wide = λ m h. absurd (Contains-none m h);
-  fresh_wide = λ m h. absurd (Contains-none m h);
   few = lit≤ tt;
   once = ((λ h. number_apart 1 0 (λ e. omega arith) h), ((λ h. Contains-none 1 h), tt));
   each = λ l. (below l, listed l);
@@ -114,6 +106,8 @@ bound_to name = record {
   one_writer = λ i j one other e f. absurd cc;
   words = λ w h. absurd (Contains-none w h);
   apart = tt;
+  leaves = λ leaf h. absurd (Contains-none leaf h);
+  leaves_apart = tt;
   pc = lit≤ tt;
   pc_below = λ w h. absurd (Contains-none w h);
   controls = record {
@@ -132,8 +126,8 @@ bound_to name = record {
     start s (inr i) = only_member (IsLabelled (one_secret name 2)) (Label 0) (lit≤ tt) s i
 
 -- label 1 is in no set of what is shown
-no_finding : (name : Text) (d : ℕ) → HasFinding (one_register name) (one_share_setup name) 1 d → ⊥
-no_finding name d h = share (h.finding.whole.no_mask h.finding.member h.finding.not_empty)
+no_finding : (name : Text) (window d : ℕ) → HasFinding (one_register name) (one_share_setup name) 1 window d → ⊥
+no_finding name window d h = share (h.finding.whole.no_mask h.finding.member h.finding.not_empty)
   where
     only_register : (b : ℕ) → h.row 0 b ≡ Vary → b ≡ 1
     only_register b e = go (cases_eq b 1) (cases_eq b 0)
@@ -159,7 +153,8 @@ no_finding name d h = share (h.finding.whole.no_mask h.finding.member h.finding.
     pair : (u : Probe) × Contains h.pairs u × (h.set_of (h.root u.cycle u.bit) 1 ≡ true) → ⊥
     pair (u, listed, has) =
         let s = h.finding.seen u listed in
-        let below : u.cycle < 1 = seen_cycle (one_register name) (one_share_setup name) 1 h.row h.reach h.probes h.finding.each u s in
+        let below : u.cycle < 1 = seen_cycle (one_register name) (one_share_setup name) 1 h.row h.reach (moments 1 window h.probes)
+        (moments-probes 2 (Some 0) 1 window h.probes h.finding.each) u s in
         let now : u.cycle ≡ 0 = omega arith in
         let bit : u.bit ≡ 1 = only_register u.bit (ap (λ t. h.row t u.bit) (sym now) ∙ s.unknown) in
         false≢true (sym (h.finding.selection.single 0 1)
@@ -172,18 +167,23 @@ no_finding name d h = share (h.finding.whole.no_mask h.finding.member h.finding.
         (only_member (λ ks. Contains ks 1) (0 ∷ 1 ∷ []) (Contains-later 0 1 (1 ∷ []) (Contains-here 1 [])) shares listed) member
         ∙ h.finding.not_empty))
 
-pub one_share : (name : Text) (d : ℕ) → IsSecure (one_register name) (one_share_setup name) 1 d
+pub one_share : (name : Text) (window d : ℕ) → IsSecure (one_register name) (one_share_setup name) 1 window d
 unfolding MeaningLaw NoFindingLaw
-one_share name d = go (meaning_law (one_register name) (one_share_setup name) 1 (λ b. b) (ranked name) (bound_to name).bound (driven name)
+one_share name window d = go (meaning_law (one_register name) (one_share_setup name) 1 (λ b. b) (ranked name) (bound_to name).bound (driven name)
     (range name))
   where
-    go : HasMeaning (one_register name) (one_share_setup name) 1 → IsSecure (one_register name) (one_share_setup name) 1 d
-    go m = no_finding_law (one_register name) (one_share_setup name) 1 (λ b. b) m.row m.word
+    go : HasMeaning (one_register name) (one_share_setup name) 1 → IsSecure (one_register name) (one_share_setup name) 1 window d
+    go m = no_finding_law (one_register name) (one_share_setup name) 1
         (record {
-          ranked = ranked name;
-          driven = driven name;
-          range = range name;
-          bound_to = bound_to name;
-          known = m.known;
-          controls = λ t below. record { each = λ c h. absurd (Contains-none c h) };
-        }) d (no_finding name d)
+          rank = λ b. b;
+          row = m.row;
+          word = m.word;
+          is = record {
+            ranked = ranked name;
+            driven = driven name;
+            range = range name;
+            bound_to = bound_to name;
+            known = m.known;
+            controls = λ t below. record { each = λ c h. absurd (Contains-none c h) };
+          };
+        }) window d (no_finding name window d)

@@ -23,7 +23,7 @@ use Rattle.model_laws.proofs.Meanings.{meaning_law}
 use Rattle.coco_model.specs.Meaning.{HasMeaning}
 use Rattle.model_laws.specs.Laws.{IsChecked, OneKnownLaw, MeaningLaw}
 use Rattle.walsh_laws.specs.Security.{IsSimulated}
-use Rattle.walsh_laws.proofs.RunNodes.{IsReady}
+use Rattle.walsh_laws.proofs.RunNodes.{IsRootedRun}
 
 -- a default and the members of a list are good, so what is read from it is
 read_good : (P : Start → Type 0) (starts : List Start) (i : ℕ) → P (Public false) → ((s : Start) → Contains starts s → P s)
@@ -55,7 +55,7 @@ checked_of flat setup cycles rank row word simulated = record {
 pub ready_of : (flat : Flat) (setup : Setup) (cycles : ℕ) (rank : ℕ → ℕ) (row : ℕ → Row) (word : ℕ → ℕ → Row)
     → IsSimulated flat setup cycles rank row word
     → (root : ℕ → ℕ → Root) (rooted : ℕ → ℕ → ℕ → Root) → IsRooted flat setup cycles row root rooted
-    → IsReady flat setup cycles rank row word root rooted
+    → IsRootedRun flat setup cycles rank row word root rooted
 ready_of flat setup cycles rank row word simulated root rooted is_rooted = record {
   checked = checked_of flat setup cycles rank row word simulated;
   range = simulated.range;
@@ -78,7 +78,7 @@ pub same_row : (flat : Flat) (setup : Setup) (cycles : ℕ) (rank : ℕ → ℕ)
 unfolding OneKnownLaw
 same_row flat setup cycles rank row word simulated other others known t below =
     fun_ext (one_known_law flat setup cycles rank simulated.ranked simulated.bound_to.bound row other word others simulated.known known t
-    below)
+    below).0
 
 -- a simulation with other rows, which are the same in every cycle
 pub simulated_by : (flat : Flat) (setup : Setup) (cycles : ℕ) (rank : ℕ → ℕ) (row : ℕ → Row) (word : ℕ → ℕ → Row)

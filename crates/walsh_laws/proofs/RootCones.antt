@@ -16,14 +16,14 @@ use Rattle.coco_model.specs.Roots.Root.{nothing, label, output}
 use Rattle.coco_model.specs.Findings.{Labels, chosen_set, IsChosen, IsSelection}
 use Rattle.coco_model.specs.Cones.{IsInRootCone}
 use Rattle.coco_model.specs.Cones.IsInRootCone.{here, through}
-use Rattle.coco_model.proofs.Basics.{Contains-here, Contains-later, some_from_any, IsSome}
+use Rattle.coco_model.proofs.Basics.{Contains-here, Contains-later, some_from_any, HasMember}
 use Rattle.coco_model.proofs.LivePlaces.{live_input}
 use Rattle.cell_table.proofs.LawLemmas.{sum_lives}
 use Rattle.model_laws.specs.Laws.{IsRootInRange}
 use Rattle.walsh_laws.specs.Covered.{SelectionConeLaw}
 use Rattle.walsh_laws.proofs.Numbering.{number-earlier, number-lower}
 use Rattle.walsh_laws.proofs.Homes.{root_home}
-use Rattle.walsh_laws.proofs.RunNodes.{IsReady, index_of, in_range, output_below}
+use Rattle.walsh_laws.proofs.RunNodes.{IsRootedRun, index_of, in_range, output_below}
 use Rattle.coco_model.proofs.Bits.{and-false}
 use Rattle.walsh_laws.proofs.Ready.{ready_of}
 
@@ -60,7 +60,7 @@ chosen_place set_of (s ∷ ss) (x ∷ xs) l e = go (cases_Bool s) (cases_Bool (s
         ∙ ap (λ b. xor b (chosen_set set_of ss xs l)) (and-false s)) ∙ e))
 
 module _ (flat : Flat) (setup : Setup) (cycles : ℕ) (rank : ℕ → ℕ) (row : ℕ → Row) (word : ℕ → ℕ → Row) (root : ℕ → ℕ → Root)
-    (rooted : ℕ → ℕ → ℕ → Root) (ready : IsReady flat setup cycles rank row word root rooted)
+    (rooted : ℕ → ℕ → ℕ → Root) (ready : IsRootedRun flat setup cycles rank row word root rooted)
     (set_of : Root → Labels) (selection : IsSelection flat cycles row root set_of) where
   range_at : (t b : ℕ) → t < cycles → IsRootInRange flat (label_count setup.table cycles) t b (root t b)
   range_at = in_range flat setup cycles rank row word root rooted ready
@@ -91,7 +91,7 @@ module _ (flat : Flat) (setup : Setup) (cycles : ℕ) (rank : ℕ → ℕ) (row 
       (some_from_any (λ (x : FlatCell). x.output ≡ c) flat.cells ((range_at t c below).cells t c own))
       (λ s d le. output_cone bound s d l (omega arith))
     where
-      at_cell : IsSome (λ (x : FlatCell). x.output ≡ c) flat.cells
+      at_cell : HasMember (λ (x : FlatCell). x.output ≡ c) flat.cells
           → ((s d : ℕ) → index_of flat rank s d < index_of flat rank t c → s < cycles → d < flat.bits → root s d ≡ output s d
           → set_of (output s d) l ≡ true → IsInRootCone flat row root l (output s d))
           → IsInRootCone flat row root l (output t c)
@@ -136,6 +136,6 @@ module _ (flat : Flat) (setup : Setup) (cycles : ℕ) (rank : ℕ → ℕ) (row 
 
 pub selection_cone_law : SelectionConeLaw
 unfolding SelectionConeLaw
-selection_cone_law flat setup cycles rank row word simulated root rooted is_rooted set_of selection =
-    root_cone flat setup cycles rank row word root rooted (ready_of flat setup cycles rank row word simulated root rooted is_rooted) set_of
+selection_cone_law flat setup cycles sim root rooted is_rooted set_of selection =
+    root_cone flat setup cycles sim.rank sim.row sim.word root rooted (ready_of flat setup cycles sim.rank sim.row sim.word sim.is root rooted is_rooted) set_of
     selection

@@ -23,7 +23,7 @@ use Rattle.coco_model.proofs.Signs.{sign_total-cong}
 use Rattle.walsh_laws.proofs.Parity.{parity-xor, parity_one, parity_none}
 use Rattle.walsh_laws.proofs.Correlation.{correlation_law}
 use Rattle.walsh_laws.proofs.Numbering.{number_count, number-inside}
-use Rattle.walsh_laws.proofs.RunNodes.{IsReady, index_of, run_nodes, run_values, are_nodes, are_values, value_at}
+use Rattle.walsh_laws.proofs.RunNodes.{IsRootedRun, index_of, run_nodes, run_values, are_nodes, are_values, value_at}
 use Rattle.walsh_laws.proofs.Ready.{ready_of}
 
 pub map-cong : {X Y : Type 0} (f g : X → Y) (xs : List X) → ((x : X) → Contains xs x → f x ≡ g x) → map f xs ≡ map g xs
@@ -45,10 +45,10 @@ parity-numbers n number (x ∷ xs) v below =
 
 module _ (flat : Flat) (setup : Setup) (cycles : ℕ) (rank : ℕ → ℕ) (row : ℕ → Row) (word : ℕ → ℕ → Row) (root : ℕ → ℕ → Root)
     (rooted : ℕ → ℕ → ℕ → Root)
-    (ready : IsReady flat setup cycles rank row word root rooted) where
+    (ready : IsRootedRun flat setup cycles rank row word root rooted) where
   pub output_not_later : (t b s c : ℕ) → t < cycles → root t b ≡ output s c → s ≤ t
   unfolding RootLaw
-  output_not_later t b s c below e = go ((root_law flat setup cycles rank row word ready.checked ready.starts root rooted ready.is_rooted t
+  output_not_later t b s c below e = go ((root_law flat setup cycles (record { rank = rank; row = row; word = word; is = ready.checked }) ready.starts root rooted ready.is_rooted t
       b below).3.earlier s c e)
     where
       go : (s < t) ⊎ ((s ≡ t) × (c ≡ b)) → s ≤ t
@@ -102,5 +102,5 @@ module _ (flat : Flat) (setup : Setup) (cycles : ℕ) (rank : ℕ → ℕ) (row 
 
 pub run_correlation_law : RunCorrelationLaw
 unfolding RunCorrelationLaw
-run_correlation_law flat setup cycles rank row word simulated root rooted is_rooted =
-    run_correlation flat setup cycles rank row word root rooted (ready_of flat setup cycles rank row word simulated root rooted is_rooted)
+run_correlation_law flat setup cycles sim root rooted is_rooted =
+    run_correlation flat setup cycles sim.rank sim.row sim.word root rooted (ready_of flat setup cycles sim.rank sim.row sim.word sim.is root rooted is_rooted)

@@ -27,16 +27,16 @@ use Rattle.coco_model.proofs.Signs.{sign_total-cong}
 use Rattle.walsh_laws.proofs.Parity.{parity-cong_members}
 use Rattle.walsh_laws.proofs.Counting.{counting_law}
 use Rattle.walsh_laws.proofs.Numbering.{number_count, number-inside, at_number, at_number-number}
-use Rattle.walsh_laws.proofs.RunNodes.{IsReady, index_of, nothing_node, nothing_if_known, run_nodes, run_values, are_values, value_at}
+use Rattle.walsh_laws.proofs.RunNodes.{IsRootedRun, index_of, nothing_node, nothing_if_known, run_nodes, run_values, are_values, value_at}
 use Rattle.walsh_laws.proofs.Listing.{listing, IsListed, listing-member, listing-once, listing-parity}
 use Rattle.walsh_laws.proofs.Observed.{shown_numbers, AreNumbered, observed, IsShownNumber, shown_number, shows_when}
 use Rattle.walsh_laws.proofs.Ready.{AreReached, reached_of, ready_of, meaning_of, same_row, simulated_by}
 
 module _ (flat : Flat) (setup : Setup) (cycles : ℕ) (rank : ℕ → ℕ) (row : ℕ → Row) (word : ℕ → ℕ → Row) (root : ℕ → ℕ → Root)
     (rooted : ℕ → ℕ → ℕ → Root)
-    (ready : IsReady flat setup cycles rank row word root rooted) (calm : ℕ → Row) (reach : Reach)
+    (ready : IsRootedRun flat setup cycles rank row word root rooted) (calm : ℕ → Row) (reach : Reach)
     (reached : AreReached flat setup cycles row calm reach) where
-  leaf_inside : (p : Probe) → IsProbe flat setup cycles p → (l : ℕ) → Contains (reach p.cycle p.bit) l → l < flat.bits
+  leaf_inside : (p : Probe) → IsProbe flat.bits setup.clock cycles p → (l : ℕ) → Contains (reach p.cycle p.bit) l → l < flat.bits
   leaf_inside p is l h = reached_below flat (calm p.cycle) l p.bit ready.range (((reached.reached p.cycle is.cycle p.bit is.bit).1 l).0 h)
       is.bit
 
@@ -49,14 +49,14 @@ module _ (flat : Flat) (setup : Setup) (cycles : ℕ) (rank : ℕ → ℕ) (row 
     listed : Contains probes probe
     leaf : ℕ
     cycle : ℕ
-    is_probe : IsProbe flat setup cycles probe
+    is_probe : IsProbe flat.bits setup.clock cycles probe
     from : Contains (reach probe.cycle probe.bit) leaf
     when : (cycle ≡ probe.cycle) ⊎ (suc cycle ≡ probe.cycle)
     number : index_of flat rank cycle leaf ≡ i
     below : cycle < cycles
     inside : leaf < flat.bits
 
-  seen_number : (probes : List Probe) → ((p : Probe) → Contains probes p → IsProbe flat setup cycles p) → (i : ℕ)
+  seen_number : (probes : List Probe) → ((p : Probe) → Contains probes p → IsProbe flat.bits setup.clock cycles p) → (i : ℕ)
       → Contains (shown_numbers (index_of flat rank) reach probes) i
       → IsSeenNumber probes i
   seen_number probes each i h = go (shown_number (index_of flat rank) reach probes i h)
@@ -102,7 +102,7 @@ module _ (flat : Flat) (setup : Setup) (cycles : ℕ) (rank : ℕ → ℕ) (row 
 
   -- shown nodes correlate with no secret bits where the pairs that they stand for do not
   uncorrelated : (run : Choice → ℕ → Valuation) (memory : Choice → ℕ → Memory) → AreRuns flat setup cycles run memory
-      → (probes : List Probe) → ((p : Probe) → Contains probes p → IsProbe flat setup cycles p)
+      → (probes : List Probe) → ((p : Probe) → Contains probes p → IsProbe flat.bits setup.clock cycles p)
       → IsRunUncorrelated setup cycles row reach run probes
       → IsUncorrelated setup.table cycles (number_count flat.bits rank cycles) (run_nodes flat cycles rank row root)
       (run_values flat cycles rank run) (shown_numbers (index_of flat rank) reach probes)
@@ -152,7 +152,7 @@ module _ (flat : Flat) (setup : Setup) (cycles : ℕ) (rank : ℕ → ℕ) (row 
           ∙ sym (listing-parity members pair_at (λ (u : Probe). run c u.cycle u.bit) (number_count flat.bits rank cycles)))
 
   pub run_counting : (run : Choice → ℕ → Valuation) (memory : Choice → ℕ → Memory) → AreRuns flat setup cycles run memory
-      → (probes : List Probe) → ((p : Probe) → Contains probes p → IsProbe flat setup cycles p)
+      → (probes : List Probe) → ((p : Probe) → Contains probes p → IsProbe flat.bits setup.clock cycles p)
       → IsRunUncorrelated setup cycles row reach run probes
       → (secrets others : List Bool) → length secrets ≡ secret_bit_count setup.table → length others ≡ secret_bit_count setup.table
       → (seen : List Bool) → count_showing setup cycles reach run probes secrets seen
@@ -185,7 +185,7 @@ module _ (flat : Flat) (setup : Setup) (cycles : ℕ) (rank : ℕ → ℕ) (row 
 
 -- a pair that is shown is of a cycle of the run
 pub seen_cycle : (flat : Flat) (setup : Setup) (cycles : ℕ) (row : ℕ → Row) (reach : Reach) (probes : List Probe)
-    → ((p : Probe) → Contains probes p → IsProbe flat setup cycles p)
+    → ((p : Probe) → Contains probes p → IsProbe flat.bits setup.clock cycles p)
     → (u : Probe) → IsSeen row reach probes u → u.cycle < cycles
 seen_cycle flat setup cycles row reach probes each u s = go s.shows.when
   where
@@ -196,7 +196,7 @@ seen_cycle flat setup cycles row reach probes each u s = go s.shows.when
 -- and a bit of the netlist
 pub seen_inside : (flat : Flat) (setup : Setup) (cycles : ℕ) → IsInRange flat → (row calm : ℕ → Row) (reach : Reach)
     → AreReached flat setup cycles row calm reach
-    → (seen_row : ℕ → Row) (probes : List Probe) → ((p : Probe) → Contains probes p → IsProbe flat setup cycles p)
+    → (seen_row : ℕ → Row) (probes : List Probe) → ((p : Probe) → Contains probes p → IsProbe flat.bits setup.clock cycles p)
     → (u : Probe) → IsSeen seen_row reach probes u → u.bit < flat.bits
 seen_inside flat setup cycles range row calm reach reached seen_row probes each u s =
     reached_below flat (calm s.probe.cycle) u.bit s.probe.bit range
@@ -205,26 +205,26 @@ seen_inside flat setup cycles range row calm reach reached seen_row probes each 
 
 pub run_counting_law : RunCountingLaw
 unfolding RunCountingLaw
-run_counting_law flat setup cycles rank row word simulated reach is run memory runs probes each none = go
-    (meaning_of flat setup cycles rank row word simulated)
+run_counting_law flat setup cycles sim reach is run memory runs probes each none = go
+    (meaning_of flat setup cycles sim.rank sim.row sim.word sim.is)
   where
     go : HasMeaning flat setup cycles → (secrets others : List Bool) → length secrets ≡ secret_bit_count setup.table
         → length others ≡ secret_bit_count setup.table
         → (seen : List Bool) → count_showing setup cycles reach run probes secrets seen
         ≡ count_showing setup cycles reach run probes others seen
-    go m = run_counting flat setup cycles rank m.row m.word m.root m.rooted
-        (ready_of flat setup cycles rank m.row m.word again m.root m.rooted m.roots)
-        is.calm reach (reached_of flat setup cycles rank m.row m.word again reach is) run memory runs probes each
+    go m = run_counting flat setup cycles sim.rank m.row m.word m.root m.rooted
+        (ready_of flat setup cycles sim.rank m.row m.word again m.root m.rooted m.roots)
+        is.calm reach (reached_of flat setup cycles sim.rank m.row m.word again reach is) run memory runs probes each
         (record { each = λ pairs once seen. none.each pairs once (λ u h. seen_in_row u (seen u h)) })
       where
-        again : IsSimulated flat setup cycles rank m.row m.word
-        again = simulated_by flat setup cycles rank row word simulated m.row m.word m.known
+        again : IsSimulated flat setup cycles sim.rank m.row m.word
+        again = simulated_by flat setup cycles sim.rank sim.row sim.word sim.is m.row m.word m.known
 
-        seen_in_row : (u : Probe) → IsSeen m.row reach probes u → IsSeen row reach probes u
+        seen_in_row : (u : Probe) → IsSeen m.row reach probes u → IsSeen sim.row reach probes u
         seen_in_row u s = record {
           probe = s.probe;
           listed = s.listed;
           shows = s.shows;
-          unknown = ap (λ r. r u.bit) (same_row flat setup cycles rank row word simulated m.row m.word m.known u.cycle
+          unknown = ap (λ r. r u.bit) (same_row flat setup cycles sim.rank sim.row sim.word sim.is m.row m.word m.known u.cycle
               (seen_cycle flat setup cycles m.row reach probes each u s)) ∙ s.unknown;
         }

@@ -22,7 +22,7 @@ use Rattle.coco_model.specs.Known.{Row, wire_part, cell_parts}
 use Rattle.coco_model.specs.Roots.{Root, IsRooted, root_value}
 use Rattle.coco_model.specs.Roots.Root.{nothing, label, output}
 use Rattle.coco_model.specs.Nodes.{part_operand, wire_operand, IsGateOf, IsNodeOf, AreNodesOf}
-use Rattle.coco_model.proofs.Basics.{Contains-here, Contains-later, some_from_any, IsSome}
+use Rattle.coco_model.proofs.Basics.{Contains-here, Contains-later, some_from_any, HasMember}
 use Rattle.model_laws.proofs.Apart.{apart_parts}
 use Rattle.model_laws.proofs.Calms.{vary_or_not}
 use Rattle.model_laws.proofs.Knowing.{known_law}
@@ -34,7 +34,7 @@ use Rattle.walsh_laws.proofs.Numbering.{number_of, number_count, number-earlier,
 use Rattle.walsh_laws.proofs.Homes.{root_home}
 
 -- a netlist and a setup that are checked, what is known of their run, and its roots
-pub record IsReady (flat : Flat) (setup : Setup) (cycles : ℕ) (rank : ℕ → ℕ) (row : ℕ → Row) (word : ℕ → ℕ → Row) (root : ℕ → ℕ → Root)
+pub record IsRootedRun (flat : Flat) (setup : Setup) (cycles : ℕ) (rank : ℕ → ℕ) (row : ℕ → Row) (word : ℕ → ℕ → Row) (root : ℕ → ℕ → Root)
     (rooted : ℕ → ℕ → ℕ → Root) : Type 0 where
   pub checked : IsChecked flat setup cycles rank row word
   pub range : IsInRange flat
@@ -108,30 +108,30 @@ cell_of flat driven b h = go (some_from_any (λ (c : FlatCell). c.output ≡ b) 
     once = (apart_parts (input_bits flat) (outputs flat.cells)
         (apart_parts (input_bits flat ++ outputs flat.cells) (map (λ (x : FlatFlop). x.output) flat.flops) driven.once).left).right
 
-    go : IsSome (λ (c : FlatCell). c.output ≡ b) flat.cells
+    go : HasMember (λ (c : FlatCell). c.output ≡ b) flat.cells
         → (c : FlatCell) × Contains flat.cells c × (c.output ≡ b) × (driver_of flat.cells b ≡ Some c)
     go s = (s.member, s.listed, s.holds, ap (driver_of flat.cells) (sym s.holds) ∙ driver_of-listed flat.cells once s.member s.listed)
 
 -- facts on a root of a bit
 module _ (flat : Flat) (setup : Setup) (cycles : ℕ) (rank : ℕ → ℕ) (row : ℕ → Row) (word : ℕ → ℕ → Row) (root : ℕ → ℕ → Root)
     (rooted : ℕ → ℕ → ℕ → Root)
-    (ready : IsReady flat setup cycles rank row word root rooted) where
+    (ready : IsRootedRun flat setup cycles rank row word root rooted) where
   pub in_range : (t b : ℕ) → t < cycles → IsRootInRange flat (label_count setup.table cycles) t b (root t b)
   unfolding RootLaw
-  in_range t b below = (root_law flat setup cycles rank row word ready.checked ready.starts root rooted ready.is_rooted t b below).3
+  in_range t b below = (root_law flat setup cycles (record { rank = rank; row = row; word = word; is = ready.checked }) ready.starts root rooted ready.is_rooted t b below).3
 
   value_of_root : (t b : ℕ) → t < cycles → (choice : Choice) (v : ℕ → Valuation) (m : ℕ → Memory) → IsRun flat setup cycles choice v m
       → row t b ≡ Vary → v t b ≡ root_value choice v (root t b)
   unfolding RootLaw
-  value_of_root t b below = (root_law flat setup cycles rank row word ready.checked ready.starts root rooted ready.is_rooted t b below).0
+  value_of_root t b below = (root_law flat setup cycles (record { rank = rank; row = row; word = word; is = ready.checked }) ready.starts root rooted ready.is_rooted t b below).0
 
   pub nothing_if_known : (t b : ℕ) → t < cycles → row t b ≢ Vary → root t b ≡ nothing
   unfolding RootLaw
-  nothing_if_known t b below = (root_law flat setup cycles rank row word ready.checked ready.starts root rooted ready.is_rooted t b below).1
+  nothing_if_known t b below = (root_law flat setup cycles (record { rank = rank; row = row; word = word; is = ready.checked }) ready.starts root rooted ready.is_rooted t b below).1
 
   known_if_nothing : (t b : ℕ) → t < cycles → root t b ≡ nothing → row t b ≢ Vary
   unfolding RootLaw
-  known_if_nothing t b below = (root_law flat setup cycles rank row word ready.checked ready.starts root rooted ready.is_rooted t b below).2
+  known_if_nothing t b below = (root_law flat setup cycles (record { rank = rank; row = row; word = word; is = ready.checked }) ready.starts root rooted ready.is_rooted t b below).2
 
   varies_if_some : (t b : ℕ) → t < cycles → root t b ≢ nothing → row t b ≡ Vary
   varies_if_some t b below n = go (vary_or_not (row t b))
@@ -143,13 +143,13 @@ module _ (flat : Flat) (setup : Setup) (cycles : ℕ) (rank : ℕ → ℕ) (row 
   known_value : (t : ℕ) → t < cycles → (choice : Choice) (v : ℕ → Valuation) (m : ℕ → Memory) → IsRun flat setup cycles choice v m → (b : ℕ)
       → Allows (row t b) (v t b)
   unfolding KnownLaw
-  known_value t below choice v m run = (known_law flat setup cycles rank row word ready.checked choice v m run t below).0
+  known_value t below choice v m run = (known_law flat setup cycles (record { rank = rank; row = row; word = word; is = ready.checked }) choice v m run t below).0
 
   -- an output that is a root of a bit is of an earlier cycle, or the bit's own
   pub output_below : (t b s c : ℕ) → t < cycles → root t b ≡ output s c → c < flat.bits
   output_below t b s c below e = go (some_from_any (λ (x : FlatCell). x.output ≡ c) flat.cells ((in_range t b below).cells s c e))
     where
-      go : IsSome (λ (x : FlatCell). x.output ≡ c) flat.cells → c < flat.bits
+      go : HasMember (λ (x : FlatCell). x.output ≡ c) flat.cells → c < flat.bits
       go x = subst (λ y. y < flat.bits) x.holds (ready.range.outputs x.member x.listed)
 
   own_output : (t b s c : ℕ) → t < cycles → root t b ≡ output s c → t ≤ s → (s ≡ t) × (c ≡ b)

@@ -112,7 +112,7 @@ insert_in p (q ∷ ps) h n = go (order_of p q) (insert_in p ps h.1 (λ i. n (Con
         back r (inr i) = later r (is.from r i)
 
 -- the same members in ascending order
-pub record IsSorted (ps : List Probe) : Type 0 where
+pub record HasSorted (ps : List Probe) : Type 0 where
   pub probes : List Probe
   pub ascending : AreAscending probes
   pub as_long : length probes ≡ length ps
@@ -120,14 +120,14 @@ pub record IsSorted (ps : List Probe) : Type 0 where
   pub from : (p : Probe) → Contains probes p → Contains ps p
   pub parities : (f : Probe → Bool) → parity (map f probes) ≡ parity (map f ps)
 
-pub sorted : (ps : List Probe) → HasNoRepeat ps → IsSorted ps
+pub sorted : (ps : List Probe) → HasNoRepeat ps → HasSorted ps
 sorted [] h = record { probes = []; ascending = tt; as_long = refl; into = λ p i. i; from = λ p i. i; parities = λ f. refl }
 sorted (q ∷ ps) h = go (sorted ps h.1)
   where
-    go : IsSorted ps → IsSorted (q ∷ ps)
+    go : HasSorted ps → HasSorted (q ∷ ps)
     go r = put (insert_in q r.probes r.ascending (λ i. h.0 (r.from q i)))
       where
-        put : (qs : List Probe) × IsInserted q r.probes qs → IsSorted (q ∷ ps)
+        put : (qs : List Probe) × IsInserted q r.probes qs → HasSorted (q ∷ ps)
         put (qs, is) = record {
           probes = qs;
           ascending = is.ascending;

@@ -1,5 +1,6 @@
 -- Findings and written findings.
 use Rattle.std.proofs.Common.{◌≡◌, ℕ, ◌<◌, ◌≤◌, ◌⊎◌, inl, inr, false, List, map, length, get_or, sym, ◌∙◌, ap, subst, arith}
+use Rattle.std.specs.Prelude.{Contains}
 use Rattle.std.specs.List.{range_with_len}
 use Rattle.std.proofs.Math.Path.{fun_ext}
 use Rattle.std.proofs.lemmas.Bool.{cases_lt}
@@ -12,19 +13,21 @@ use Rattle.coco_base.specs.declared.unrolled.Node.TheVariants.{Nothing}
 use Rattle.coco_model.specs.Labels.{parity}
 use Rattle.coco_model.specs.Known.{Row}
 use Rattle.coco_model.specs.Reach.{Reach}
+use Rattle.coco_model.specs.Secure.{IsProbe, moments}
 use Rattle.coco_model.specs.Roots.{Root}
 use Rattle.coco_model.specs.Findings.{Labels, IsWhole, set_of_pairs, HasFinding}
 use Rattle.coco_model.specs.Nodes.{IsNodeSet, IsAllowedChoice, node_set, IsNodeSelection}
 use Rattle.coco_model.specs.WrittenFindings.{set_of_nodes, IsWrittenFinding, HasWrittenFinding}
+use Rattle.model_laws.proofs.Windows.{moments-probes, seen_by_more}
 use Rattle.model_laws.proofs.Selected.{node_sets_law, root_sets_law}
 use Rattle.model_laws.specs.Laws.{NodeSetsLaw, RootSetsLaw, HasSelection}
-use Rattle.walsh_laws.specs.Written.{IsPlaceOf, AreWrittenOver, WritingLaw, ReadingLaw}
+use Rattle.walsh_laws.specs.Written.{IsPlaceOf, AreWrittenOver, probed_with, WritingLaw, ReadingLaw}
 use Rattle.walsh_laws.specs.Covered.{HasFindingOver}
 use Rattle.walsh_laws.proofs.OneFinding.{one_finding}
 use Rattle.walsh_laws.proofs.Ready.{ready_of, AreReached, reached_of}
 use Rattle.walsh_laws.proofs.RunCorrelation.{map-cong, output_not_later}
 use Rattle.walsh_laws.proofs.RunCounting.{seen_cycle, seen_inside}
-use Rattle.walsh_laws.proofs.Sorting.{ascending_once, IsSorted, sorted}
+use Rattle.walsh_laws.proofs.Sorting.{ascending_once, HasSorted, sorted}
 use Rattle.walsh_laws.proofs.NodeNumbers.{IsNumberFor, number_for, node_set_by}
 
 module _ (flat : Flat) (setup : Setup) (cycles : ℕ) (rank : ℕ → ℕ) (row : ℕ → Row) (word : ℕ → ℕ → Row) (root : ℕ → ℕ → Root)
@@ -35,11 +38,11 @@ module _ (flat : Flat) (setup : Setup) (cycles : ℕ) (rank : ℕ → ℕ) (row 
   are_reached = reached_of flat setup cycles rank row word over.simulated reach over.reached
 
   -- a written finding is one over roots
-  pub finding_from : (d : ℕ) (probes pairs : List Probe) (numbers : List ℕ) (sets : ℕ → Labels)
-      → IsWrittenFinding flat setup cycles d index row reach nodes probes pairs numbers sets
-      → HasFinding flat setup cycles d
+  pub finding_from : (window d : ℕ) (probes pairs : List Probe) (numbers : List ℕ) (sets : ℕ → Labels)
+      → IsWrittenFinding (probed_with flat setup cycles window row reach index nodes) d probes pairs numbers sets
+      → HasFinding flat setup cycles window d
   unfolding RootSetsLaw are_reached
-  finding_from d probes pairs numbers sets w = go
+  finding_from window d probes pairs numbers sets w = go
       (root_sets_law flat cycles index row root (λ i. get_or nodes i Nothing) over.listed.stand over.simulated.range over.simulated.driven
       (output_not_later flat setup cycles rank row word root rooted
       (ready_of flat setup cycles rank row word over.simulated root rooted over.roots)) sets node_sets)
@@ -50,7 +53,13 @@ module _ (flat : Flat) (setup : Setup) (cycles : ℕ) (rank : ℕ → ℕ) (row 
           (w.candidate.selection.allowed (index t b) (over.listed.within t b below inside))
           (w.candidate.selection.follows (index t b) (over.listed.within t b below inside))
 
-      go : HasSelection flat cycles index row root sets → HasFinding flat setup cycles d
+      lasts : List Probe
+      lasts = moments cycles window probes
+
+      all : (p : Probe) → Contains lasts p → IsProbe flat.bits setup.clock cycles p
+      all = moments-probes flat.bits setup.clock cycles window probes w.candidate.each
+
+      go : HasSelection flat cycles index row root sets → HasFinding flat setup cycles window d
       go h = record {
         row = row;
         word = word;
@@ -81,8 +90,8 @@ module _ (flat : Flat) (setup : Setup) (cycles : ℕ) (rank : ℕ → ℕ) (row 
         where
           same : (l : ℕ) → set_of_nodes index sets pairs l ≡ set_of_pairs root h.set_of pairs l
           same l = ap parity (map-cong (λ (u : Probe). sets (index u.cycle u.bit) l) (λ (u : Probe). h.set_of (root u.cycle u.bit) l) pairs
-              (λ u i. h.same u.cycle u.bit l (seen_cycle flat setup cycles row reach probes w.candidate.each u (w.candidate.seen u i))
-              (seen_inside flat setup cycles over.simulated.range row over.reached.calm reach are_reached row probes w.candidate.each u
+              (λ u i. h.same u.cycle u.bit l (seen_cycle flat setup cycles row reach lasts all u (w.candidate.seen u i))
+              (seen_inside flat setup cycles over.simulated.range row over.reached.calm reach are_reached row lasts all u
               (w.candidate.seen u i))))
 
   -- the sets of nodes by those of roots
@@ -100,10 +109,10 @@ module _ (flat : Flat) (setup : Setup) (cycles : ℕ) (rank : ℕ → ℕ) (row 
       go p = let e = over.listed.stand.apart t b p.cycle p.bit inside p.inside p.number in
           ap (λ s. set_of (root s p.bit) l) (sym e.0) ∙ ap (λ c. set_of (root t c) l) (sym e.1)
 
-  pub written_from : (d : ℕ) → HasFindingOver flat setup cycles d row reach root
-      → HasWrittenFinding flat setup cycles d index row reach nodes
+  pub written_from : (window d : ℕ) → HasFindingOver flat setup cycles window d row reach root
+      → HasWrittenFinding (probed_with flat setup cycles window row reach index nodes) d
   unfolding NodeSetsLaw set_at are_reached
-  written_from d h = go (sorted h.probes h.finding.different) (sorted h.pairs h.finding.once)
+  written_from window d h = go (sorted h.probes h.finding.different) (sorted h.pairs h.finding.once)
     where
       sets : ℕ → Labels
       sets i = set_at h.set_of i (cases_lt i (length nodes))
@@ -148,7 +157,13 @@ module _ (flat : Flat) (setup : Setup) (cycles : ℕ) (rank : ℕ → ℕ) (row 
             (number_at i n.0).follows l ∙ ap (λ k. node_set sets k (get_or nodes i Nothing) l) (sym n.1);
       }
 
-      go : IsSorted h.probes → IsSorted h.pairs → HasWrittenFinding flat setup cycles d index row reach nodes
+      lasts : List Probe
+      lasts = moments cycles window h.probes
+
+      all : (p : Probe) → Contains lasts p → IsProbe flat.bits setup.clock cycles p
+      all = moments-probes flat.bits setup.clock cycles window h.probes h.finding.each
+
+      go : HasSorted h.probes → HasSorted h.pairs → HasWrittenFinding (probed_with flat setup cycles window row reach index nodes) d
       go ps us = record {
         probes = ps.probes;
         pairs = us.probes;
@@ -161,8 +176,7 @@ module _ (flat : Flat) (setup : Setup) (cycles : ℕ) (rank : ℕ → ℕ) (row 
             each = λ p i. h.finding.each p (ps.from p i);
             ascending = ps.ascending;
             in_order = us.ascending;
-            seen = λ u i. let s = h.finding.seen u (us.from u i) in
-                record { probe = s.probe; listed = ps.into s.probe s.listed; shows = s.shows; unknown = s.unknown };
+            seen = λ u i. seen_by_more cycles window row reach h.probes ps.probes ps.into u (h.finding.seen u (us.from u i));
             selection = node_selection;
           };
           elsewhere = record { zero = λ i below n. let k = number_is i below in k.1 ∙ (number_at i k.0).elsewhere n };
@@ -177,17 +191,16 @@ module _ (flat : Flat) (setup : Setup) (cycles : ℕ) (rank : ℕ → ℕ) (row 
           same : (l : ℕ) → set_of_nodes index sets us.probes l ≡ set_of_pairs root h.set_of h.pairs l
           same l = us.parities (λ (u : Probe). sets (index u.cycle u.bit) l)
               ∙ ap parity (map-cong (λ (u : Probe). sets (index u.cycle u.bit) l) (λ (u : Probe). h.set_of (root u.cycle u.bit) l) h.pairs
-              (λ u i. sets_same u.cycle u.bit l (seen_cycle flat setup cycles row reach h.probes h.finding.each u (h.finding.seen u i))
-              (seen_inside flat setup cycles over.simulated.range row over.reached.calm reach are_reached row h.probes h.finding.each u
+              (λ u i. sets_same u.cycle u.bit l (seen_cycle flat setup cycles row reach lasts all u (h.finding.seen u i))
+              (seen_inside flat setup cycles over.simulated.range row over.reached.calm reach are_reached row lasts all u
               (h.finding.seen u i))))
 
 pub writing_law : WritingLaw
 unfolding WritingLaw
-writing_law flat setup cycles rank row word root rooted reach index nodes over d h =
-    written_from flat setup cycles rank row word root rooted reach index nodes over d
-    (one_finding flat setup cycles rank row word over.simulated root rooted over.roots reach over.reached d h)
+writing_law flat setup cycles r window d h =
+    written_from flat setup cycles r.rank r.row r.word r.root r.rooted r.reach r.index r.nodes r.over window d
+    (one_finding flat setup cycles r.rank r.row r.word r.over.simulated r.root r.rooted r.over.roots r.reach r.over.reached window d h)
 
 pub reading_law : ReadingLaw
 unfolding ReadingLaw
-reading_law flat setup cycles rank row word root rooted reach index nodes over =
-    finding_from flat setup cycles rank row word root rooted reach index nodes over
+reading_law flat setup cycles r = finding_from flat setup cycles r.rank r.row r.word r.root r.rooted r.reach r.index r.nodes r.over

@@ -4,4 +4,5 @@ pub mod Laws
 pub mod Security
 pub mod Written
 pub mod Covered
+pub mod Unrolled
 pub mod Examples

@@ -25,17 +25,20 @@ pub record AreOperandsBefore (i : ℕ) (ps : List Part) (os : List ℕ) : Type 0
   pub before : (place : ℕ) → get_or ps place Zero ≡ Vary → get_or os place 0 < i
 
 -- a gate node has the output of its kind for the values at its inputs
-pub record IsGateValue (labels : ℕ) (value : Choice → ℕ → Bool) (i : ℕ) (kind : Kind) (parts : List Part) (operands : List ℕ) : Type 0 where
+pub record IsGateValue (labels : ℕ) (value : Choice → ℕ → Bool) (i : ℕ) (kind : Kind) (parts : List Part)
+    (operands : List ℕ) : Type 0 where
   pub earlier : AreOperandsBefore i (input_places kind parts) (input_places kind operands)
   pub output : (choice : Choice) → length choice ≡ labels
       → value choice i ≡ output_of kind (input_values (value choice) (input_places kind parts) (input_places kind operands))
 
--- the value of node i under every choice of so many label bits: nothing has one value, a label its bit, a copy the value of an earlier
--- node, and a gate its output for its inputs
+-- the value of node i under every choice of so many label bits: nothing has one value, a label its bit, a copy the
+-- value of an earlier node, and a gate its output for its inputs
 abbrev pub IsNodeValue : ℕ → (Choice → ℕ → Bool) → ℕ → Node → Type 0
 IsNodeValue labels value i Nothing = (b : Bool) × ((choice : Choice) → length choice ≡ labels → value choice i ≡ b)
-IsNodeValue labels value i (Label k) = (k < labels) × ((choice : Choice) → length choice ≡ labels → value choice i ≡ label_bit choice k)
-IsNodeValue labels value i (Copy j) = (j < i) × ((choice : Choice) → length choice ≡ labels → value choice i ≡ value choice j)
+IsNodeValue labels value i (Label k) = (k < labels)
+    × ((choice : Choice) → length choice ≡ labels → value choice i ≡ label_bit choice k)
+IsNodeValue labels value i (Copy j) = (j < i)
+    × ((choice : Choice) → length choice ≡ labels → value choice i ≡ value choice j)
 IsNodeValue labels value i (Gate kind parts operands) = IsGateValue labels value i kind parts operands
 
 -- values of the first n nodes

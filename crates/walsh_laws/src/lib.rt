@@ -6,6 +6,7 @@ ghost use Rattle.walsh_laws.specs.Laws.{CorrelationLaw, CountingLaw};
 ghost use Rattle.walsh_laws.specs.Security.{RunCorrelationLaw, RunCountingLaw, NoFindingLaw, InTimeLaw, NarrowLaw};
 ghost use Rattle.walsh_laws.specs.Covered.{OneFindingLaw, SelectionConeLaw, CoverLaw};
 ghost use Rattle.walsh_laws.specs.Written.{WritingLaw, ReadingLaw};
+ghost use Rattle.walsh_laws.specs.Unrolled.{SomeTryLaw, TryFindsLaw, LeastChoiceLaw, NeededTryLaw};
 
 pub mod examples;
 
@@ -16,8 +17,8 @@ pub fn correlation_law()
     ensures { CorrelationLaw }
 {}
 
-/// Where no set of shown nodes correlates with secret bits, equally many choices give the nodes any values, whatever the
-/// secrets are.
+/// Where no set of shown nodes correlates with secret bits, equally many choices give the nodes any values, whatever
+/// the secrets are.
 pub fn counting_law()
     ensures { CountingLaw }
 {}
@@ -27,8 +28,8 @@ pub fn run_correlation_law()
     ensures { RunCorrelationLaw }
 {}
 
-/// Where what probes show correlates with no secret bits, equally many choices show any observation, whatever the secrets
-/// are.
+/// Where what probes show correlates with no secret bits, equally many choices show any observation, whatever the
+/// secrets are.
 pub fn run_counting_law()
     ensures { RunCountingLaw }
 {}
@@ -43,14 +44,14 @@ pub fn in_time_law()
     ensures { InTimeLaw }
 {}
 
-/// A run that is secure of an order for the coarser reach by structure alone is secure of this order where calm bits block
-/// what probes reach.
+/// A run that is secure of an order for the coarser reach by structure alone is secure of this order where calm bits
+/// block what probes reach.
 pub fn narrow_law()
     ensures { NarrowLaw }
 {}
 
-/// Where a finding of an order exists, a written one does: with probes and pairs in ascending order, and a number for each
-/// node that is 0 where the node is no gate.
+/// Where a finding of an order exists, a written one does: with probes and pairs in ascending order, and a number for
+/// each node that is 0 where the node is no gate.
 pub fn writing_law()
     ensures { WritingLaw }
 {}
@@ -73,4 +74,24 @@ pub fn one_finding_law()
 /// A run with a finding is covered, so one that is not covered has none.
 pub fn cover_law()
     ensures { CoverLaw }
+{}
+
+/// Where a finding of an order exists, a try over the unrolled run is one, whose nodes alone tell what is unknown.
+pub fn some_try_law()
+    ensures { SomeTryLaw }
+{}
+
+/// A written finding over the unrolled run is a finding.
+pub fn try_finds_law()
+    ensures { TryFindsLaw }
+{}
+
+/// Each node has a least choice: the sign of a gate's output does not vanish, so some signed sum does not.
+pub fn least_choice_law()
+    ensures { LeastChoiceLaw }
+{}
+
+/// Where a finding of an order exists, so does a try that chooses nothing but at nodes that matter and is one.
+pub fn needed_try_law()
+    ensures { NeededTryLaw }
 {}
