@@ -15,6 +15,7 @@ use Rattle.coco_base.specs.declared.setup.Setup.{Setup}
 use Rattle.coco_base.specs.declared.setup.InputPlan.{InputPlan}
 use Rattle.coco_base.specs.declared.setup.EchoPlan.{EchoPlan}
 use Rattle.coco_base.specs.declared.setup.MemPlan.{MemPlan}
+use Rattle.coco_base.specs.declared.setup.LeafPlan.{LeafPlan}
 use Rattle.coco_base.specs.declared.setup.Start.{Start}
 use Rattle.coco_base.specs.declared.setup.Start.TheVariants.{Public, Label, Fresh}
 use Rattle.coco_base.specs.declared.labels.LabelTable.{LabelTable}
@@ -194,9 +195,11 @@ flop_leaf flat setup ready f listed = record {
 
     clock_bound : setup.clock ≡ Some f.output → Contains (bound_bits setup) f.output
     clock_bound e =
-        Contains-append_left front (flat_map (λ (mem : MemPlan). mem.answer) setup.memories) f.output
+        Contains-append_left (front ++ flat_map (λ (mem : MemPlan). mem.answer) setup.memories)
+        (flat_map (λ (leaf : LeafPlan). leaf.bits) setup.leaves) f.output
+        (Contains-append_left front (flat_map (λ (mem : MemPlan). mem.answer) setup.memories) f.output
         (Contains-append_left (option_to_list setup.clock ++ map (λ (p : InputPlan). p.bit) setup.inputs) (map (λ (e : EchoPlan). e.bit) setup.echoes) f.output
-        (Contains-append_left (option_to_list setup.clock) (map (λ (p : InputPlan). p.bit) setup.inputs) f.output (clock_in setup.clock e)))
+        (Contains-append_left (option_to_list setup.clock) (map (λ (p : InputPlan). p.bit) setup.inputs) f.output (clock_in setup.clock e))))
 
 -- in such a run an input port has the clock alone
 pub leaf_flop : (flat : Flat) (setup : Setup) → IsReady flat setup → (leaf : ℕ) → IsLeaf flat setup.clock leaf → IsFlopBit flat leaf
@@ -211,7 +214,7 @@ leaf_flop flat setup ready leaf is = go is.driven
         one (inr i) = absurd (Contains-none leaf i)
 
     bound : bound_bits setup ≡ option_to_list setup.clock
-    bound = rw (ready.run.no_inputs, ready.run.no_echoes, ready.run.no_memories) (grind (arith, common_steps))
+    bound = rw (ready.run.no_inputs, ready.run.no_echoes, ready.run.no_memories, ready.run.no_leaves) (grind (arith, common_steps))
 
     go : IsFlopBit flat leaf ⊎ IsInputBit flat leaf → IsFlopBit flat leaf
     go (inl i) = i

@@ -74,7 +74,7 @@ hides flat setup ready t shown rows b none shares h =
 pub record IsSearched (flat : Flat) (setup : Setup) (cycles : ℕ) (old now : List (List Bool)) (cycle : ℕ) : Type 0 where
   pub old_rows : AreConeRows flat setup (before cycle) old
   pub now_rows : AreConeRows flat setup cycle now
-  pub hidden : (p : Probe) → IsProbe flat setup cycles p → p.cycle < cycle → HidesSecrets flat setup p
+  pub hidden : (p : Probe) → IsProbe flat.bits setup.clock cycles p → p.cycle < cycle → HidesSecrets flat setup p
 
 pub searched_none : (flat : Flat) (setup : Setup) (cycles : ℕ) (old now : List (List Bool)) → AreConeRows flat setup 0 old → AreConeRows flat setup 0 now → IsSearched flat setup cycles old now 0
 searched_none flat setup cycles old now o n = record { old_rows = o; now_rows = n; hidden = λ p is h. absurd (omega arith) }
@@ -90,7 +90,7 @@ searched_more flat setup ready cycles old now next shown cycle s rows none more 
       hidden = λ p is h. hidden_case p is (cases_order p.cycle cycle) h;
     })
   where
-    hidden_case : (p : Probe) → IsProbe flat setup cycles p → (p.cycle ≡ cycle) ⊎ ((p.cycle < cycle) ⊎ (cycle < p.cycle)) → p.cycle < suc cycle → HidesSecrets flat setup p
+    hidden_case : (p : Probe) → IsProbe flat.bits setup.clock cycles p → (p.cycle ≡ cycle) ⊎ ((p.cycle < cycle) ⊎ (cycle < p.cycle)) → p.cycle < suc cycle → HidesSecrets flat setup p
     hidden_case p is (inl e) h = subst (λ c. HidesSecrets flat setup (record { bit = p.bit; cycle = c })) (sym e) (hides flat setup ready cycle shown rows p.bit (none p.bit is.bit is.no_clock))
     hidden_case p is (inr (inl lower)) h = s.hidden p is lower
     hidden_case p is (inr (inr higher)) h = absurd (omega arith)
@@ -112,7 +112,7 @@ leak_found flat setup ready cycles old now shown cycle bit index below s rows f 
   first = λ p is earlier. first_case p is earlier;
 }
   where
-    first_case : (p : Probe) → IsProbe flat setup cycles p → (p.cycle < cycle) ⊎ ((p.cycle ≡ cycle) × (p.bit < bit)) → HidesSecrets flat setup p
+    first_case : (p : Probe) → IsProbe flat.bits setup.clock cycles p → (p.cycle < cycle) ⊎ ((p.cycle ≡ cycle) × (p.bit < bit)) → HidesSecrets flat setup p
     first_case p is (inl lower) = s.hidden p is lower
     first_case p is (inr e) = subst (λ c. HidesSecrets flat setup (record { bit = p.bit; cycle = c })) (sym e.0) (hides flat setup ready cycle shown rows p.bit (f.least p.bit e.1 is.no_clock))
 

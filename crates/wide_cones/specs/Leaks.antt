@@ -43,9 +43,9 @@ pub record IsFirstBit (bits : ℕ) (clock : Option ℕ) (shown : List (List Bool
 
 -- the first probe, by cycle and then by bit, whose cone holds all shares of a secret bit, and the number of the least such secret bit
 pub record IsFirstLeak (flat : Flat) (setup : Setup) (cycles : ℕ) (leak : Leak) : Type 0 where
-  pub is_probe : IsProbe flat setup cycles leak.probe
+  pub is_probe : IsProbe flat.bits setup.clock cycles leak.probe
   pub shares : List ℕ
   pub at : slice_get (secret_labels setup.table.secrets) leak.secret ≡ Some shares
   pub holds : HoldsSecret flat setup leak.probe shares
   pub least : (i : ℕ) (labels : List ℕ) → i < leak.secret → slice_get (secret_labels setup.table.secrets) i ≡ Some labels → LacksLabel flat setup leak.probe labels
-  pub first : (p : Probe) → IsProbe flat setup cycles p → ComesBefore p leak.probe → HidesSecrets flat setup p
+  pub first : (p : Probe) → IsProbe flat.bits setup.clock cycles p → ComesBefore p leak.probe → HidesSecrets flat setup p

@@ -23,7 +23,7 @@ pub fn first_leak(
 ) -> Result<Option<Leak>, NoMemory>
     requires { IsReady flat.now setup.now }
     ensures some { IfOk result (λ o. IfSome o (IsFirstLeak flat.now setup.now cycles)) }
-    ensures none { IfOk result (λ o. IfNone o ((p : Probe) → IsProbe flat.now setup.now cycles p → HidesSecrets flat.now setup.now p)) }
+    ensures none { IfOk result (λ o. IfNone o ((p : Probe) → IsProbe flat.now.bits setup.now.clock cycles p → HidesSecrets flat.now setup.now p)) }
 {
     let _declared = setup.table.declared;
     let gates = gates_of(alloc, flat)?;

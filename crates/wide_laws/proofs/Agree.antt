@@ -20,7 +20,7 @@ use Rattle.coco_model.proofs.Basics.{Contains-none}
 use Rattle.model_laws.proofs.Forced.{on_wires-cong}
 use Rattle.model_laws.proofs.Ranks.{by_rank}
 use Rattle.model_laws.proofs.Carry.{Leaf, leaf_of}
-use Rattle.model_laws.proofs.Carry.Leaf.{undriven, clock, input, echo, answer, flop}
+use Rattle.model_laws.proofs.Carry.Leaf.{undriven, clock, input, echo, answer, word, flop}
 use Rattle.wide_laws.specs.WideCones.{IsInWideCone}
 use Rattle.wide_laws.specs.WideCones.IsInWideCone.{starts, moves, passes}
 use Rattle.wide_laws.specs.Laws.{IsFlopRun}
@@ -64,6 +64,7 @@ same_runs flat rank setup cycles run one other v w m n run_v run_w = cycle_by_cy
     fixed t below b (input p listed e) k = absurd (none_listed setup.inputs p run.no_inputs listed)
     fixed t below b (echo p listed e) k = absurd (none_listed setup.echoes p run.no_echoes listed)
     fixed t below b (answer p listed place e) k = absurd (none_listed setup.memories p run.no_memories listed)
+    fixed t below b (word p listed place e) k = absurd (none_listed setup.leaves p run.no_leaves listed)
     fixed t below b (flop f listed e) k = k f listed e
 
     first : (b : ℕ) (f : FlatFlop) → Contains flat.flops f → f.output ≡ b → AgreeAt flat setup one other 0 b → v 0 b ≡ w 0 b

@@ -52,7 +52,7 @@ module _ (flat : Flat) (rank : ℕ → ℕ) (setup : Setup) (cycles : ℕ) (run 
         meaning = meaning;
         wide = wide;
         narrow = narrow;
-        in_time = in_time_law flat setup cycles rank meaning.row meaning.word checked driven range d narrow;
+        in_time = in_time_law flat setup cycles (record { rank = rank; row = meaning.row; word = meaning.word; is = checked }) driven range 1 d narrow;
       }
 
 pub hidden_in_time : HiddenInTimeLaw

@@ -10,12 +10,13 @@ use Rattle.coco_base.specs.declared.setup.Setup.{Setup}
 use Rattle.coco_base.specs.declared.finding.Probe.{Probe}
 use Rattle.coco_model.specs.Labels.{Choice, label_count, share_label, share_labels, secret_labels, mask_labels, secret_bits, same_bits, IsLabelTable}
 use Rattle.coco_model.specs.Run.{before}
-use Rattle.coco_model.specs.Secure.{IsProbe, observation, IsSecureFor, IsWidelySecure}
+use Rattle.coco_model.specs.Secure.{IsProbe, observation, count_showing, IsSecureFor, IsWidelySecure}
 use Rattle.coco_model.proofs.Basics.{Contains-here, Contains-cases, Contains-none}
 use Rattle.coco_model.proofs.Keepers.{before_below}
 use Rattle.coco_model.proofs.Choices.{count-cong, filtered_twice}
 use Rattle.model_laws.proofs.Apart.{apart_parts}
 use Rattle.model_laws.proofs.Lists.{Contains-map, image_of_map, joined_of_flat_map}
+use Rattle.model_laws.proofs.Windows.{moments_of_one}
 use Rattle.walsh_laws.proofs.Determined.{agreed_observed}
 use Rattle.wide_laws.specs.WideCones.{IsInWideProbeCone, HidesSecrets}
 use Rattle.wide_laws.specs.Laws.{HiddenSharesLaw}
@@ -44,8 +45,8 @@ abbrev IsAbsent : Flat → Setup → List Probe → ℕ → Type 0
 IsAbsent flat setup probes k = (p : Probe) → Contains probes p → IsInWideProbeCone flat setup p k → ⊥
 
 -- at most one probe lacks a share of each secret bit
-absent_share : (flat : Flat) (setup : Setup) (cycles : ℕ) → IsLabelTable setup.table → ((probe : Probe) → IsProbe flat setup cycles probe → HidesSecrets flat setup probe)
-    → (probes : List Probe) → length probes ≤ 1 → ((p : Probe) → Contains probes p → IsProbe flat setup cycles p)
+absent_share : (flat : Flat) (setup : Setup) (cycles : ℕ) → IsLabelTable setup.table → ((probe : Probe) → IsProbe flat.bits setup.clock cycles probe → HidesSecrets flat setup probe)
+    → (probes : List Probe) → length probes ≤ 1 → ((p : Probe) → Contains probes p → IsProbe flat.bits setup.clock cycles p)
     → (shares : List ℕ) → Contains (secret_labels setup.table.secrets) shares → HasGood (IsAbsent flat setup probes) shares
 absent_share flat setup cycles good hides [] most each shares h =
     let s = some_share setup.table good shares h in record { label = s.label; member = s.member; is_good = λ p i. absurd (Contains-none p i) }
@@ -64,10 +65,12 @@ absent_share flat setup cycles good hides (p ∷ q ∷ probes) most each shares 
 pub hidden_shares : HiddenSharesLaw
 unfolding IsWidelySecure IsSecureFor
 hidden_shares flat rank setup cycles run hides reach wide runs memory are probes most each secrets others n m seen =
-    filtered_twice label_number shown (has secrets)
+    subst (λ ps. count_showing setup cycles reach runs ps secrets seen ≡ count_showing setup cycles reach runs ps others seen)
+    (sym (moments_of_one cycles probes (λ p h. (each p h).cycle)))
+    (filtered_twice label_number shown (has secrets)
     ∙ count-cong label_number _ _ (λ c as_long. sym (turned c))
     ∙ sym (count-flips label_number turn.labels in_range (λ c. has others c && shown c))
-    ∙ sym (filtered_twice label_number shown (has others))
+    ∙ sym (filtered_twice label_number shown (has others)))
   where
     table : LabelTable
     table = setup.table

@@ -20,12 +20,14 @@ pub record IsFlopRun (flat : Flat) (rank : ℕ → ℕ) (setup : Setup) : Type 0
   pub no_inputs : setup.inputs ≡ []
   pub no_echoes : setup.echoes ≡ []
   pub no_memories : setup.memories ≡ []
+  pub no_leaves : setup.leaves ≡ []
 
 -- where each probe's cone lacks some share of every secret bit, single probes observe the same whatever the secrets are
 abbrev pub HiddenSharesLaw : Type 0
 HiddenSharesLaw =
-    (flat : Flat) (rank : ℕ → ℕ) (setup : Setup) (cycles : ℕ) → IsFlopRun flat rank setup →
-    ((probe : Probe) → IsProbe flat setup cycles probe → HidesSecrets flat setup probe) → IsWidelySecure flat setup cycles 1
+    (flat : Flat) (rank : ℕ → ℕ) (setup : Setup) (cycles : ℕ) → IsFlopRun flat rank setup
+    → ((probe : Probe) → IsProbe flat.bits setup.clock cycles probe → HidesSecrets flat setup probe)
+    → IsWidelySecure flat setup cycles 1
 
 -- nothing of a run has to be known: it has no program counter and no controls, and no flop has a reset
 pub record HasNoControls (flat : Flat) (setup : Setup) : Type 0 where
@@ -39,13 +41,14 @@ pub record HasNoControls (flat : Flat) (setup : Setup) : Type 0 where
 pub record IsSecureThroughout (flat : Flat) (setup : Setup) (cycles d : ℕ) : Type 0 where
   pub meaning : HasMeaning flat setup cycles
   pub wide : IsWidelySecure flat setup cycles d
-  pub narrow : IsSecure flat setup cycles d
-  pub in_time : IsSecureInTime flat setup cycles d
+  pub narrow : IsSecure flat setup cycles 1 d
+  pub in_time : IsSecureInTime flat setup cycles 1 d
 
 -- where each probe's cone lacks some share of every secret bit, single probes see the same whatever the secrets are,
 -- under every order of gate events
 abbrev pub HiddenInTimeLaw : Type 0
 HiddenInTimeLaw =
-    (flat : Flat) (rank : ℕ → ℕ) (setup : Setup) (cycles : ℕ) → IsFlopRun flat rank setup → HasOneDriver flat → IsInRange flat →
-    HasNoControls flat setup →
-    ((probe : Probe) → IsProbe flat setup cycles probe → HidesSecrets flat setup probe) → IsSecureThroughout flat setup cycles 1
+    (flat : Flat) (rank : ℕ → ℕ) (setup : Setup) (cycles : ℕ) → IsFlopRun flat rank setup → HasOneDriver flat
+    → IsInRange flat → HasNoControls flat setup
+    → ((probe : Probe) → IsProbe flat.bits setup.clock cycles probe → HidesSecrets flat setup probe)
+    → IsSecureThroughout flat setup cycles 1

@@ -15,17 +15,20 @@ use Rattle.coco_model.specs.Reach.{Connects}
 use Rattle.coco_model.specs.Roots.{roots}
 use Rattle.coco_model.specs.Roots.Root.{label}
 
--- a label is in the cone of a bit in a cycle: a flop starts with it, or a flop's next value had it in the cycle before, or an input of
--- the cell that drives the bit has it
+-- a label is in the cone of a bit in a cycle: a flop starts with it, or a flop's next value had it in the cycle
+-- before, or an input of the cell that drives the bit has it
 pub data IsInWideCone (flat : Flat) (setup : Setup) (l : ℕ) : ℕ → ℕ → Type 0 where
   starts : (bit : ℕ) (flop : FlatFlop) → Contains flat.flops flop → flop.output ≡ bit
-      → start_state roots setup.table 0 (get_or setup.starts bit (Public false)) ≡ label l → IsInWideCone flat setup l 0 bit
+      → start_state roots setup.table 0 (get_or setup.starts bit (Public false)) ≡ label l
+      → IsInWideCone flat setup l 0 bit
   moves : (cycle bit from : ℕ) (flop : FlatFlop) → Contains flat.flops flop → flop.output ≡ bit → flop.next ≡ Bit from
       → IsInWideCone flat setup l cycle from → IsInWideCone flat setup l (suc cycle) bit
-  passes : (cycle bit from : ℕ) (cell : FlatCell) → Contains flat.cells cell → cell.output ≡ bit → Contains (wires_of cell) (Bit from)
+  passes : (cycle bit from : ℕ) (cell : FlatCell) → Contains flat.cells cell → cell.output ≡ bit
+      → Contains (wires_of cell) (Bit from)
       → IsInWideCone flat setup l cycle from → IsInWideCone flat setup l cycle bit
 
--- a label is in the cone of a probe: in that of a leaf that the probe's bit is connected to, in the probe's cycle or the one before
+-- a label is in the cone of a probe: in that of a leaf that the probe's bit is connected to, in the probe's cycle or
+-- the one before
 pub record IsInWideProbeCone (flat : Flat) (setup : Setup) (probe : Probe) (l : ℕ) : Type 0 where
   pub leaf : ℕ
   pub connected : Connects flat setup.clock leaf probe.bit
