@@ -15,11 +15,11 @@ use Rattle.coco_model.specs.Cells.{input_count}
 use Rattle.coco_model.specs.Netlist.{IsWireBelow, IsInRange, HasNoRepeat, wires_of}
 use Rattle.coco_model.proofs.Basics.{Contains-here, Contains-cases, Contains-none}
 use Rattle.model_laws.proofs.Lists.{IsImage, image_of_map, Contains-flat_map}
-use Rattle.netlist_json.specs.Json.{json_of}
-use Rattle.netlist_json.specs.Module.{module_of, only_module}
-use Rattle.netlist_json.specs.Netlist.{ascending, numbers_in, wire_numbers, drivers, is_built, most_bits, keeps_clock, rises, is_below, output_of, place_of, flat_wire, flat_cell, flat_net, flat_with, flat_of, netlist_of, built, reading_of, netlist_from}
-use Rattle.netlist_json.specs.declared.module.Element.TheVariants.{Gate, Flop}
-use Rattle.netlist_json.specs.declared.module.Module.{Module}
+use Rattle.first_netlist.specs.Json.{json_of}
+use Rattle.first_netlist.specs.Module.{module_of, only_module}
+use Rattle.first_netlist.specs.Netlist.{ascending, numbers_in, wire_numbers, drivers, is_built, most_bits, keeps_clock, rises, is_below, output_of, place_of, flat_wire, flat_cell, flat_net, flat_with, flat_of, netlist_of, built, reading_of, netlist_from}
+use Rattle.first_netlist.specs.declared.module.Element.TheVariants.{Gate, Flop}
+use Rattle.first_netlist.specs.declared.module.Module.{Module}
 use Rattle.netlist_facts.specs.Laws.{IsBuilt, BuiltLaw}
 use Rattle.netlist_facts.proofs.Orders.{IsRising, ascending_rises, ascending_has, ascending_differ, place_below, place_rises, places_differ}
 use Rattle.netlist_facts.proofs.Drivers.{AreApart, all_driven_once}

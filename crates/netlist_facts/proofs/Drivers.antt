@@ -7,9 +7,9 @@ use Rattle.coco_base.specs.declared.netlist.FlatFlop.{FlatFlop}
 use Rattle.coco_model.specs.Netlist.{HasNoRepeat}
 use Rattle.coco_model.proofs.Basics.{Contains-here, Contains-later, Contains-cases, Contains-none}
 use Rattle.model_laws.proofs.Lists.{IsImage}
-use Rattle.netlist_json.specs.declared.module.Element.{Element}
-use Rattle.netlist_json.specs.declared.module.Element.TheVariants.{Gate, Flop}
-use Rattle.netlist_json.specs.Netlist.{flat_cells, flat_flops, place_of, output_of}
+use Rattle.first_netlist.specs.declared.module.Element.{Element}
+use Rattle.first_netlist.specs.declared.module.Element.TheVariants.{Gate, Flop}
+use Rattle.first_netlist.specs.Netlist.{flat_cells, flat_flops, place_of, output_of}
 
 -- what the gates drive, and then what the flops drive
 abbrev pub driven : List ℕ → List Element → List ℕ

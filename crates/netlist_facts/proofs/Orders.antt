@@ -9,7 +9,7 @@ use Rattle.coco_model.specs.Netlist.{HasNoRepeat}
 use Rattle.coco_model.proofs.Basics.{Contains-here, Contains-later, Contains-cases, Contains-none}
 use Rattle.model_laws.proofs.Ascending.{ascending_cons}
 use Rattle.model_laws.proofs.Lists.{contains_or_not}
-use Rattle.netlist_json.specs.Netlist.{ascending, place_of}
+use Rattle.first_netlist.specs.Netlist.{ascending, place_of}
 use Rattle.netlist_facts.specs.Laws.{NumbersLaw}
 
 -- each number is below all later ones

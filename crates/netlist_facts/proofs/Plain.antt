@@ -10,11 +10,11 @@ use Rattle.coco_base.specs.declared.netlist.Wire.{Wire}
 use Rattle.coco_base.specs.declared.netlist.Wire.TheVariants.{Const}
 use Rattle.coco_base.specs.declared.netlist.FlatNet.{FlatNet}
 use Rattle.coco_model.proofs.Basics.{Contains-cases, Contains-none}
-use Rattle.netlist_json.specs.declared.module.Element.{Element}
-use Rattle.netlist_json.specs.declared.module.Element.TheVariants.{Gate, Flop}
-use Rattle.netlist_json.specs.declared.module.Clock.{Clock}
-use Rattle.netlist_json.specs.declared.module.Module.{Module}
-use Rattle.netlist_json.specs.Module.{has_pins, pin_of, driven_by, gate, two_inputs, one_input, flop, plain_flop, element_of_type, element_of, each, elements_of, elements_or_none, nets_or_none, clock_of, module_of}
+use Rattle.first_netlist.specs.declared.module.Element.{Element}
+use Rattle.first_netlist.specs.declared.module.Element.TheVariants.{Gate, Flop}
+use Rattle.first_netlist.specs.declared.module.Clock.{Clock}
+use Rattle.first_netlist.specs.declared.module.Module.{Module}
+use Rattle.first_netlist.specs.Module.{has_pins, pin_of, driven_by, gate, two_inputs, one_input, flop, plain_flop, element_of_type, element_of, each, elements_of, elements_or_none, nets_or_none, clock_of, module_of}
 
 abbrev pub IsPlain : Element → Type 0
 IsPlain (Gate cell) = Unit {0}

@@ -12,10 +12,10 @@ use Rattle.coco_base.specs.declared.netlist.Wire.TheVariants.{Const, Bit}
 use Rattle.coco_model.specs.Netlist.{IsWireBelow}
 use Rattle.coco_model.proofs.Basics.{Contains-here, Contains-later, Contains-cases, Contains-none}
 use Rattle.model_laws.proofs.Lists.{Contains-flat_map}
-use Rattle.netlist_json.specs.declared.module.Element.{Element}
-use Rattle.netlist_json.specs.declared.module.Element.TheVariants.{Gate, Flop}
-use Rattle.netlist_json.specs.declared.module.Module.{Module}
-use Rattle.netlist_json.specs.Netlist.{flat_cells, flat_flops, flat_cell, flat_flop, flat_wire, output_of, numbers_in, element_numbers, net_numbers, wire_numbers}
+use Rattle.first_netlist.specs.declared.module.Element.{Element}
+use Rattle.first_netlist.specs.declared.module.Element.TheVariants.{Gate, Flop}
+use Rattle.first_netlist.specs.declared.module.Module.{Module}
+use Rattle.first_netlist.specs.Netlist.{flat_cells, flat_flops, flat_cell, flat_flop, flat_wire, output_of, numbers_in, element_numbers, net_numbers, wire_numbers}
 use Rattle.netlist_facts.proofs.Orders.{place_below}
 
 pub Contains-take : {X : Type 0} (n : ℕ) (xs : List X) (x : X) → Contains (take n xs) x → Contains xs x

@@ -6,7 +6,7 @@ use Rattle.coco_base.specs.declared.netlist.FlatFlop.{FlatFlop}
 use Rattle.coco_base.specs.declared.netlist.FlatPort.{FlatPort}
 use Rattle.coco_base.specs.declared.netlist.Wire.TheVariants.{Bit}
 use Rattle.coco_model.specs.Netlist.{IsRanked, HasOneDriver, IsInRange, input_bits}
-use Rattle.netlist_json.specs.Netlist.{ascending, netlist_from, place_of}
+use Rattle.first_netlist.specs.Netlist.{ascending, netlist_from, place_of}
 
 -- a circuit without loops, each gate's output with a number above those that the gate reads; no bit has two drivers;
 -- all numbers are in range; the one port is the clock's, of one bit; no flop has a reset; and there are at most 4,096

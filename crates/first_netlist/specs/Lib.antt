@@ -1,0 +1,4 @@
+pub mod Json
+pub mod Module
+pub mod Netlist
+pub mod Wires
