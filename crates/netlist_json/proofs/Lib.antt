@@ -1,4 +1,7 @@
-pub mod Json
-pub mod Members
+pub mod Faults
 pub mod Places
-pub mod Flats
+pub mod Types
+pub mod OneMore
+pub mod Orders
+pub mod FlatLaws
+pub mod Json

@@ -6,7 +6,7 @@ use Rattle.std.proofs.lemmas.Bool.{eq-eqb, ne_eqb}
 use Rattle.std.proofs.lemmas.Map.Keys.{below_from_sorted, non_decreasing_from_sorted}
 use Rattle.std.specs.List.Sorted.{IsStrictlySortedBy}
 use Rattle.std.specs.Ordering.{nat_cmp}
-use Rattle.netlist_json.specs.Netlist.{place_of}
+use Rattle.netlist_json.specs.Flats.{place_of}
 
 -- a number stands at one place alone
 pub differs_before : (xs : List ℕ) → IsStrictlySortedBy nat_cmp xs → (x i : ℕ) → i < length xs → get_or xs i 0 ≡ x → (k : ℕ) → k < i → get_or xs k 0 ≢ x

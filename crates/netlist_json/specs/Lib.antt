@@ -1,4 +1,9 @@
+pub mod Faults
 pub mod Json
-pub mod Module
-pub mod Netlist
+pub mod Shape
 pub mod Wires
+pub mod CellForms
+pub mod CellTypes
+pub mod Elements
+pub mod Flats
+pub mod Keys

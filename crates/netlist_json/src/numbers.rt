@@ -1,53 +1,20 @@
-ghost use Rattle.std.specs.Prelude.{◌≡◌, ℕ, ◌+◌, ◌++◌, ◌≤◌, ◌<◌, ◌^◌, length, flat_map, map, fold, IfOk, OnOk};
+ghost use Rattle.std.specs.Prelude.{◌≡◌, ◌++◌, ◌<◌, ◌^◌, length, flat_map, fold, IfOk, OnOk};
 ghost use Rattle.std.specs.List.Sorted.{IsStrictlySortedBy};
 ghost use Rattle.std.specs.Ordering.{nat_cmp};
-ghost use Rattle.netlist_json.specs.Netlist.{ascending, drivers, element_numbers, net_numbers, numbers_in, output_of, place_of, wire_numbers};
+ghost use Rattle.netlist_json.specs.Flats.{ascending, cell_numbers, net_numbers, numbers_in, place_of, port_numbers, wire_numbers};
 
-use crate::module::{Element, Module};
+use crate::source::{Source, SourceCell, SourcePort};
 use coco_base::{FlatNet, NoMemory, Wire};
 use std::alloc::Global;
 use std::collections::BTreeSet;
-
-fn note(all: &mut Vec<u32>, wire: Wire) -> Result<(), NoMemory>
-    ensures { OnOk result (all.new.items ≡ all.old.items ++ wire_numbers wire) }
-{
-    if let Wire::Bit(number) = wire {
-        all.push(number)?;
-    }
-    Ok(())
-}
 
 fn note_wires(all: &mut Vec<u32>, wires: &[Wire]) -> Result<(), NoMemory>
     ensures { OnOk result (all.new.items ≡ all.old.items ++ flat_map wire_numbers wires.now) }
 {
     'wires: for wire in wires {
-        note(all, *wire)?;
-    }
-    Ok(())
-}
-
-fn note_element(all: &mut Vec<u32>, element: &Element) -> Result<(), NoMemory>
-    ensures { OnOk result (all.new.items ≡ all.old.items ++ element_numbers element.now) }
-{
-    match element {
-        Element::Gate(cell) => {
-            note_wires(all, &cell.inputs)?;
-            all.push(cell.output)?;
+        if let Wire::Bit(number) = *wire {
+            all.push(number)?;
         }
-        Element::Flop(flop) => {
-            note(all, flop.clock)?;
-            note(all, flop.next)?;
-            all.push(flop.output)?;
-        }
-    }
-    Ok(())
-}
-
-fn note_elements(all: &mut Vec<u32>, elements: &[Element]) -> Result<(), NoMemory>
-    ensures { OnOk result (all.new.items ≡ all.old.items ++ flat_map element_numbers elements.now) }
-{
-    'elements: for element in elements {
-        note_element(all, element)?;
     }
     Ok(())
 }
@@ -61,43 +28,33 @@ fn note_nets(all: &mut Vec<u32>, nets: &[FlatNet]) -> Result<(), NoMemory>
     Ok(())
 }
 
-/// Each number that a module names.
-pub fn numbers(alloc: Global, source: &Module) -> Result<Vec<u32>, NoMemory>
-    ensures { IfOk result (λ v. v.items ≡ numbers_in source.now) }
+fn note_ports(all: &mut Vec<u32>, ports: &[SourcePort]) -> Result<(), NoMemory>
+    ensures { OnOk result (all.new.items ≡ all.old.items ++ flat_map port_numbers ports.now) }
 {
-    let mut all = Vec::new(alloc);
-    all.push(source.clock.number)?;
-    note_elements(&mut all, source.elements.as_slice())?;
-    note_nets(&mut all, source.nets.as_slice())?;
-    Ok(all)
-}
-
-/// The bits that the port and the cells of a module drive.
-pub fn driven(alloc: Global, source: &Module) -> Result<Vec<u32>, NoMemory>
-    ensures { IfOk result (λ v. v.items ≡ drivers source.now) }
-{
-    let mut all = Vec::new(alloc);
-    all.push(source.clock.number)?;
-    note_outputs(&mut all, source.elements.as_slice())?;
-    Ok(all)
-}
-
-fn note_outputs(all: &mut Vec<u32>, elements: &[Element]) -> Result<(), NoMemory>
-    ensures { OnOk result (all.new.items ≡ all.old.items ++ map output_of elements.now) }
-{
-    'elements: for element in elements {
-        all.push(output(element))?;
+    'ports: for port in ports {
+        note_wires(all, port.wires.as_slice())?;
     }
     Ok(())
 }
 
-fn output(element: &Element) -> u32
-    ensures { result ≡ output_of element.now }
+fn note_cells(all: &mut Vec<u32>, cells: &[SourceCell]) -> Result<(), NoMemory>
+    ensures { OnOk result (all.new.items ≡ all.old.items ++ flat_map cell_numbers cells.now) }
 {
-    match element {
-        Element::Gate(cell) => cell.output,
-        Element::Flop(flop) => flop.output,
+    'cells: for cell in cells {
+        note_nets(all, cell.connections.as_slice())?;
     }
+    Ok(())
+}
+
+/// Each number that occurs in a module.
+pub fn numbers(alloc: Global, source: &Source) -> Result<Vec<u32>, NoMemory>
+    ensures { IfOk result (λ v. v.items ≡ numbers_in source.now) }
+{
+    let mut all = Vec::new(alloc);
+    note_ports(&mut all, source.ports.as_slice())?;
+    note_cells(&mut all, source.cells.as_slice())?;
+    note_nets(&mut all, source.nets.as_slice())?;
+    Ok(all)
 }
 
 /// The different numbers of a slice, in ascending order.

@@ -1,5 +1,5 @@
-ghost use Rattle.std.specs.Prelude.{◌≡◌, IfOk, option_and_then, option_map};
-ghost use Rattle.netlist_json.specs.Wires.{bit_of, bits_of, constant_of, is_no_items, only_wire, wire_of, wires_of};
+ghost use Rattle.std.specs.Prelude.{◌≡◌, IfOk};
+ghost use Rattle.netlist_json.specs.Wires.{bit_of, constant_of, wire_of, wires_of};
 ghost use Rattle.serde_json.specs.View.{items_view, view};
 
 use coco_base::{List, NoMemory, Wire};
@@ -30,8 +30,7 @@ fn constant(text: &str) -> Option<Wire>
     }
 }
 
-/// A place of a bit list.
-pub fn wire(value: &Value) -> Option<Wire>
+fn wire(value: &Value) -> Option<Wire>
     ensures { result ≡ wire_of (view value.now) }
 {
     match value.as_u64() {
@@ -57,33 +56,4 @@ pub fn wires(alloc: Global, values: &[Value]) -> Result<Option<List<Wire>>, NoMe
         rest = after;
     }
     Ok(Some(all))
-}
-
-/// The one place of a bit list of one.
-pub fn only(values: &[Value]) -> Option<Wire>
-    ensures { result ≡ only_wire (items_view values.now) }
-{
-    match values {
-        [] => None,
-        [first, rest @ ..] => { if is_end(rest) { wire(first) } else { None } }
-    }
-}
-
-fn is_end(rest: &[Value]) -> bool
-    ensures { result ≡ is_no_items (items_view rest.now) }
-{
-    match rest {
-        [] => true,
-        [_next, _after @ ..] => false,
-    }
-}
-
-/// The bit list of a port or a net.
-pub fn bits(alloc: Global, value: &Value) -> Result<Option<List<Wire>>, NoMemory>
-    ensures { IfOk result (λ o. o ≡ bits_of (view value.now)) }
-{
-    match value.get("bits").and_then(Value::as_array) {
-        Some(values) => wires(alloc, values.as_slice()),
-        None => Ok(None),
-    }
 }

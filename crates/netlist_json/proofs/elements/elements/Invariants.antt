@@ -1,9 +1,8 @@
--- the cells so far, and those of the rest, are the cells of all
-use Rattle.std.proofs.Common.{◌≡◌, ◌++◌, option_map, List}
-use Rattle.netlist_json.specs.Module.{elements_of}
-use Rattle.netlist_json.specs.declared.module.Element.{Element}
-use Rattle.serde_json.specs.View.{members_view}
+-- the elements so far, and those of the cells that are left, are those of all
+use Rattle.std.proofs.Common.{◌≡◌, drop}
+use Rattle.netlist_json.specs.Elements.{elements_of}
+use Rattle.netlist_json.proofs.Faults.{with_front}
 use Rattle.netlist_json.proofs.elements.elements.Given as goal
 
 abbrev pub invariant-cells : goal.invariant-cells
-invariant-cells l = option_map (λ (es : List Element). l.all ++ es) (elements_of (members_view l.name-iterator)) ≡ elements_of (members_view l.fn.members.entries)
+invariant-cells l = with_front l.all (elements_of (drop l.cell-index l.cells)) ≡ elements_of l.cells

@@ -1,0 +1,15 @@
+-- one more
+use Rattle.std.proofs.Common.{◌≡◌, Ok, string_bytes}
+use Rattle.serde_json.specs.View.{members_view, view}
+use Rattle.netlist_json.specs.Shape.{each, cell_of}
+use Rattle.netlist_json.proofs.Faults.{each_more}
+use Rattle.netlist_json.proofs.shape.cells.Goals as goal
+
+pub cells-preserved : goal.cells-preserved
+cells-preserved c =
+    let key = string_bytes c.in-Some.name.now in
+    let value = view c.in-Some.value.now in
+    let read : cell_of key value ≡ Ok c.in_ok-cell.field-0 = rw c.as_str.ensures.value at c.in_ok-cell.ensures in
+    rw c.in_ok-push.ensures.ok
+    (each_more cell_of c.cells.all c.in_ok-cell.field-0 key value (members_view c.next.new.self) (each cell_of (members_view c.args.members.now.entries))
+    (rw c.in-Some.ensures.steps at c.cells.invariant) read)
