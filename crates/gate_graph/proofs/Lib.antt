@@ -1,0 +1,14 @@
+pub mod Items
+pub mod PlaceLemmas
+pub mod TableLemmas
+pub mod WiredLemmas
+pub mod LevelLemmas
+pub mod StepLemmas
+pub mod WalkLemmas
+pub mod LoopLemmas
+pub mod OrderLemmas
+pub mod RankLemmas
+pub mod SettleLemmas
+pub mod ClockLemmas
+pub mod RangeLemmas
+pub mod BuiltLemmas

@@ -1,0 +1,13 @@
+pub mod Drivers
+pub mod Levels
+pub mod Loops
+pub mod Ranks
+pub mod Clocks
+pub mod Graphs
+pub mod Faults
+pub mod Settled
+pub mod Tables
+pub mod Marks
+pub mod Standings
+pub mod Numbers
+pub mod Laws
