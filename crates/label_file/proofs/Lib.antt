@@ -1,0 +1,5 @@
+mod CauseLemmas
+mod FileLemmas
+mod NameLemmas
+mod Rooms
+mod ValueLemmas

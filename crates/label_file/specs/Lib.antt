@@ -1,0 +1,11 @@
+pub mod Causes
+pub mod Numbers
+pub mod Forms
+pub mod LabelWords
+pub mod Operands
+pub mod Names
+pub mod Values
+pub mod Readings
+pub mod Statements
+pub mod Files
+pub mod Conditions
