@@ -1,0 +1,4 @@
+pub mod NodeCones
+pub mod Coned
+pub mod Marks
+pub mod Weights
