@@ -1,0 +1,11 @@
+pub mod Lines
+pub mod Looks
+pub mod Matched
+pub mod Options
+pub mod Rules
+pub mod Runs
+pub mod Short
+pub mod Stays
+pub mod Steps
+pub mod Uses
+pub mod Walks
