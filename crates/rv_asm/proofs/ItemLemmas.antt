@@ -1,10 +1,10 @@
 -- Items one after the other, and the brackets that close halves.
 use Rattle.std.proofs.Common.{◌≡◌, ℕ, zero, suc, ◌+◌, ◌-◌, ◌<◌, ◌≤◌, List, [], ◌∷◌, ◌++◌, length, drop, get_or, Option, Some, None, refl, ap, sym, ◌∙◌, arith, append_assoc, drop-cons, add-one}
 use Rattle.rv_asm.specs.Readings.{◌>>=◌, Fails, from_first, items_up_to, with_first}
-use Rattle.rv_asm.specs.declared.reading.Unread.{Unread}
-use Rattle.rv_asm.specs.declared.reading.Unread.TheVariants.{Memory, Other}
-use Rattle.rv_asm.specs.declared.expression.Half.{Half}
-use Rattle.rv_asm.specs.declared.expression.Half.TheVariants.{High}
+use Rattle.rv_asm.specs.declared.line.reading.Unread.{Unread}
+use Rattle.rv_asm.specs.declared.line.reading.Unread.TheVariants.{Memory, Other}
+use Rattle.rv_asm.specs.declared.line.expression.Half.{Half}
+use Rattle.rv_asm.specs.declared.line.expression.Half.TheVariants.{High}
 use Rattle.rv_asm.specs.Tokens.{mark_at}
 use Rattle.rv_asm.specs.Expressions.{closed_at}
 

@@ -1,5 +1,5 @@
+mod TableLemmas
 mod ItemLemmas
-mod LineLemmas
 mod NumberLemmas
 mod WordLemmas
 mod NameLemmas

@@ -5,7 +5,7 @@ use Rattle.std.specs.Cmp.Lexicographic.{pointwise}
 use Rattle.std.specs.Map.{lookup}
 use Rattle.std.specs.Str.{bytes_eq}
 use Rattle.std.proofs.lemmas.List.{map-append, take-map}
-use Rattle.rv_asm.specs.declared.names.Meaning.{Meaning}
+use Rattle.rv_asm.specs.declared.layout.names.Meaning.{Meaning}
 use Rattle.rv_asm.specs.Names.{bytes_of_keys, meaning_of}
 
 pub lookup_bytes : (name : List ℕ) (entries : List (Vec ℕ Global × Meaning)) → lookup (λ k. pointwise nat_eq name k.items) entries ≡ meaning_of (bytes_of_keys entries) name

@@ -1,27 +1,32 @@
--- Numbers that are cut at a bound stand for all greater ones.
-use Rattle.std.proofs.Common.{◌≡◌, ℕ, ◌+◌, ◌*◌, ◌^◌, List, [], ◌∷◌, Option, Some, None, min, refl, ap, sym, ◌∙◌, arith}
-use Rattle.std.specs.Option.{option_map}
-use Rattle.rv_asm.specs.declared.numbers.Base.{Base}
-use Rattle.rv_asm.specs.declared.numbers.Base.TheVariants.{Ten, Sixteen}
-use Rattle.rv_asm.specs.Readings.{◌>>=◌}
-use Rattle.rv_asm.specs.Numbers.{capped, digit_of, digits_on, worth}
+-- A number that is read is at most the greatest one that is asked for.
+use Rattle.std.proofs.Common.{◌≡◌, ℕ, ◌≤◌, Bool, true, false, cond, leb, List, drop, Result, Ok, Err, refl, arith}
+use Rattle.std.specs.Prelude.{◌==◌, codes, nat_le}
+use Rattle.std.specs.List.{starts_with}
+use Rattle.std.specs.Str.Parse.{digits_value}
+use Rattle.std.proofs.lemmas.Bool.Decides.{nat_tests}
+use Rattle.coco_base.specs.declared.number.NumberFault.{NumberFault}
+use Rattle.coco_base.specs.declared.number.NumberFault.TheVariants.{NotDigits, TooLarge}
+use Rattle.coco_base.specs.Numbers.{are_digits, literal_of, number_of, within}
 
-capped_step : (base : Base) (v w d : ℕ) → capped v ≡ capped w → capped (v * worth base + d) ≡ capped (w * worth base + d)
-capped_step Ten v w d e = omega arith
-capped_step Sixteen v w d e = omega arith
+cond_ok : (b : Bool) (fault : NumberFault) (r : Result ℕ NumberFault) (n : ℕ) → cond b r (Err fault) ≡ Ok n → (b ≡ true) × (r ≡ Ok n)
+cond_ok true fault r n e = (refl, e)
+cond_ok false fault r n e = cc
 
--- two values that are cut to one go on to numbers that are cut to one
-pub digits_on-capped : (base : Base) (bytes : List ℕ) (v w : ℕ) → capped v ≡ capped w → option_map capped (digits_on base v bytes) ≡ option_map capped (digits_on base w bytes)
-digits_on-capped base [] v w e = ap Some e
-digits_on-capped base (byte ∷ more) v w e =
-    elim (digit_of base byte) as (λ o. option_map capped (o >>= λ d. digits_on base (v * worth base + d) more) ≡ option_map capped (o >>= λ d. digits_on base (w * worth base + d) more)) [
-      | None ↦ refl
-      | Some d ↦ digits_on-capped base more (v * worth base + d) (w * worth base + d) (capped_step base v w d e)
-    ]
+within_most : (most k n : ℕ) → within most k ≡ Ok n → n ≤ most
+within_most most k n e =
+    let inside = cond_ok (nat_le k most) TooLarge (Ok k) n e in
+    let at_most : nat_le k most ≡ true = inside.0 in
+    let same : k ≡ n = cc in
+    grind (arith, nat_tests)
 
--- one digit more
-pub digits_on-more : (base : Base) (rest more : List ℕ) (byte d v n w : ℕ) (whole : Option ℕ) → rest ≡ byte ∷ more → digit_of base byte ≡ Some d → n ≡ worth base → w ≡ min (v * n + d) (2 ^ 33) → option_map capped (digits_on base v rest) ≡ whole → option_map capped (digits_on base w more) ≡ whole
-digits_on-more base rest more byte d v n w whole split digit base_is cut so_far =
-    let here : digits_on base v rest ≡ digits_on base (v * worth base + d) more = ap (digits_on base v) split ∙ ap (λ o. o >>= λ k. digits_on base (v * worth base + k) more) digit in
-    let by_n : capped w ≡ capped (v * n + d) = omega arith in
-    digits_on-capped base more w (v * worth base + d) (by_n ∙ ap (λ k. capped (v * k + d)) base_is) ∙ (sym (ap (option_map capped) here) ∙ so_far)
+number_most : (radix most : ℕ) (digits : List ℕ) (n : ℕ) → number_of radix most digits ≡ Ok n → n ≤ most
+number_most radix most digits n e =
+    within_most most (digits_value radix digits) n (cond_ok (are_digits radix digits) NotDigits (within most (digits_value radix digits)) n e).1
+
+either_most : (b : Bool) (p q : Result ℕ NumberFault) (most n : ℕ) → (p ≡ Ok n → n ≤ most) → (q ≡ Ok n → n ≤ most) → cond b p q ≡ Ok n → n ≤ most
+either_most true p q most n hp hq e = hp e
+either_most false p q most n hp hq e = hq e
+
+pub literal_most : (most : ℕ) (word : List ℕ) (n : ℕ) → literal_of most word ≡ Ok n → n ≤ most
+literal_most most word n e =
+    either_most (starts_with ◌==◌ word (codes "0x")) (number_of 16 most (drop 2 word)) (number_of 10 most word) most n (number_most 16 most (drop 2 word) n) (number_most 10 most word n) e

@@ -4,9 +4,9 @@ use Rattle.std.proofs.lemmas.Grind.{flat_map-append}
 use Rattle.std.proofs.lemmas.List.{take_more, take-append-drop}
 use Rattle.std.proofs.lemmas.List.Elements.{All-push}
 use Rattle.std.proofs.Math.Seq.{take-length}
-use Rattle.rv_asm.specs.declared.assembler.Memory.{Memory}
-use Rattle.rv_asm.specs.declared.cause.Cause.{Cause}
-use Rattle.rv_asm.specs.declared.cause.Cause.TheVariants as cause
+use Rattle.rv_asm.specs.declared.image.assembler.Memory.{Memory}
+use Rattle.rv_asm.specs.declared.layout.cause.Cause.{Cause}
+use Rattle.rv_asm.specs.declared.layout.cause.Cause.TheVariants as cause
 use Rattle.rv_asm.specs.declared.layout.Placed.{Placed}
 use Rattle.rv_asm.specs.Causes.{Fails, fault_of}
 use Rattle.rv_asm.specs.Names.{Table}
@@ -36,7 +36,7 @@ put_one_more names ps i p old new words lt is before right puts =
       text = flat_one (text_words names) ps i p old.image.text new.image.text _ lt is before.text text puts.text;
       lines = flat_one (text_lines names) ps i p old.image.lines new.image.lines _ lt is before.lines (ap (map (λ _. p.line)) text) puts.lines;
       values = puts.values ∙ before.values;
-      bytes = flat_one (data_bytes names) ps i p old.bytes new.bytes _ lt is before.bytes (ap (λ o. in_data p.place.part (bytes_each p.content) (found o)) right) puts.bytes;
+      bytes = flat_one (data_bytes names) ps i p old.bytes.items new.bytes.items _ lt is before.bytes (ap (λ o. in_data p.place.part (bytes_each p.content) (found o)) right) puts.bytes;
     }
 
 fails_at : (names : Table) (ps : List Placed) (i : ℕ) (p : Placed) (c : Cause) → i < length ps → p ≡ get_or ps i p → AreRight names (take i ps) → words_of names p ≡ Err c → FailsAt names ps (fault_of p.line c)

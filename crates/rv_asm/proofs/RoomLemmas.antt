@@ -8,32 +8,33 @@ use Rattle.std.proofs.lemmas.Bool.Decides.{nat_tests}
 use Rattle.rv_isa.specs.declared.instruction.Instr.{Instr}
 use Rattle.rv_isa.specs.declared.instruction.Instr.TheVariants as instr
 use Rattle.rv_isa.specs.declared.instruction.ImmOp.TheVariants.{Addi}
-use Rattle.rv_asm.specs.declared.cause.Cause.{Cause}
-use Rattle.rv_asm.specs.declared.cause.Cause.TheVariants.{BadLine, Range, UnknownName}
-use Rattle.rv_asm.specs.declared.expression.Expr.{Expr}
+use Rattle.rv_asm.specs.declared.layout.cause.Cause.{Cause}
+use Rattle.rv_asm.specs.declared.layout.cause.Cause.TheVariants.{BadLine, Range, UnknownName}
+use Rattle.rv_asm.specs.declared.line.expression.Expr.{Expr}
 use Rattle.rv_asm.specs.declared.fault.AsmFault.{AsmFault}
 use Rattle.rv_asm.specs.declared.image.Image.{Image}
-use Rattle.rv_asm.specs.declared.statement.Part.{Part}
-use Rattle.rv_asm.specs.declared.statement.Part.TheVariants.{Text, Data}
-use Rattle.rv_asm.specs.declared.statement.Size.TheVariants.{Byte, Half, Word}
-use Rattle.rv_asm.specs.declared.statement.Demand.{Demand}
-use Rattle.rv_asm.specs.declared.statement.Demand.TheVariants as for
-use Rattle.rv_asm.specs.declared.statement.Statement.{Statement}
-use Rattle.rv_asm.specs.declared.statement.Statement.TheVariants.{Nothing, Whole, Asks, LoadNumber, Enter, Zeros, Align, Equal}
-use Rattle.rv_asm.specs.declared.statement.Line.{Line}
-use Rattle.rv_asm.specs.declared.place.Place.{Place}
-use Rattle.rv_asm.specs.declared.content.Content.{Content}
-use Rattle.rv_asm.specs.declared.content.Content.TheVariants.{Known, Fill, Asked}
+use Rattle.rv_asm.specs.declared.line.statement.Part.{Part}
+use Rattle.rv_asm.specs.declared.line.statement.Part.TheVariants.{Text, Data}
+use Rattle.rv_asm.specs.declared.line.statement.Size.TheVariants.{Byte, Half, Word}
+use Rattle.rv_asm.specs.declared.line.statement.Demand.{Demand}
+use Rattle.rv_asm.specs.declared.line.statement.Demand.TheVariants as for
+use Rattle.rv_asm.specs.declared.line.statement.Statement.{Statement}
+use Rattle.rv_asm.specs.declared.line.statement.Statement.TheVariants.{Nothing, Whole, Asks, LoadNumber, Enter, Zeros, Align, Equal}
+use Rattle.rv_asm.specs.declared.line.statement.Line.{Line}
+use Rattle.rv_asm.specs.declared.layout.place.Place.{Place}
+use Rattle.rv_asm.specs.declared.layout.content.Content.{Content}
+use Rattle.rv_asm.specs.declared.layout.content.Content.TheVariants.{Known, Fill, Asked}
 use Rattle.rv_asm.specs.declared.layout.Layout.{Layout}
 use Rattle.rv_asm.specs.declared.layout.Placed.{Placed}
 use Rattle.rv_asm.specs.Causes.{◌>>=◌}
 use Rattle.rv_asm.specs.Lines.{number_after}
+use Rattle.rv_asm.specs.Regions.{IsWithinRegions, most_cells}
 use Rattle.rv_asm.specs.Names.{Table}
 use Rattle.rv_asm.specs.Values.{high_half, low_half, low_word, value_of}
 use Rattle.rv_asm.specs.SourceLines.{line_of}
 use Rattle.rv_asm.specs.Demands.{address_words, all_words, byte_count, field_of, field_words, fit_word, is_stored, single, word_count, words_at, words_of as words_of_value}
-use Rattle.rv_asm.specs.Layouts.{address_of, after_cells, bytes_each, cells_filled, content_of, content_put, content_taken, entered, equal_named, equal_taken, has_outside, is_misplaced, line_taken, most_cells, parts_taken, put_place, read_taken, statement_taken, Taken, with_labels, words_in}
-use Rattle.rv_asm.specs.Programs.{after_line, after_lines, all_known, AreRight, data_bytes, found, HasPlaced, HasRoom, in_data, in_text, IsImageOf, layout_of, put_at, start, stored_bytes, text_lines, text_words, with_taken, words_of, words_of_bytes, words_placed}
+use Rattle.rv_asm.specs.Layouts.{address_of, after_cells, bytes_each, cells_filled, content_of, content_put, content_effect, in_part, equal_named, equal_effect, has_outside, is_misplaced, line_effect, parts_effect, put_place, read_effect, statement_effect, Effect, with_labels, words_in}
+use Rattle.rv_asm.specs.Programs.{after_line, after_lines, all_known, AreRight, data_bytes, found, HasPlaced, in_data, in_text, IsImageOf, layout_of, put_at, start, stored_bytes, text_lines, text_words, with_effect, words_of, words_of_bytes, words_placed}
 
 -- ---- outcomes that are right
 
@@ -245,18 +246,18 @@ counted_put place after number ps (Some content) moves h = counted_more place.pa
 
 -- ---- lines
 
-stays : (place after : Place) (names : Table) (taken : Taken) → after.words ≡ place.words → after.bytes ≡ place.bytes → Is (Ok (record { place = after; names = names; content = None })) taken → MovesBy place taken.place taken.content
+stays : (place after : Place) (names : Table) (taken : Effect) → after.words ≡ place.words → after.bytes ≡ place.bytes → Is (Ok (record { place = after; names = names; content = None })) taken → MovesBy place taken.place taken.content
 stays place after names taken words bytes h =
-    let t : Taken = record { place = after; names = names; content = None } in
+    let t : Effect = record { place = after; names = names; content = None } in
     let here : MovesBy place t.place t.content = (words, bytes) in
-    subst (λ (u : Taken). MovesBy place u.place u.content) (ok_is t taken h) here
+    subst (λ (u : Effect). MovesBy place u.place u.content) (ok_is t taken h) here
 
-names_move : (place : Place) (r : Result Table Cause) (taken : Taken) → (r >>= λ named. Ok (record { place = place; names = named; content = None })) ≡ Ok taken → MovesBy place taken.place taken.content
+names_move : (place : Place) (r : Result Table Cause) (taken : Effect) → (r >>= λ named. Ok (record { place = place; names = named; content = None })) ≡ Ok taken → MovesBy place taken.place taken.content
 names_move place (Ok named) taken h = stays place place named taken refl refl h
 names_move place (Err c) taken h = cc
 
-equal_moves : (place : Place) (names : Table) (name : List ℕ) (e : Expr) (taken : Taken) → equal_taken place names name e ≡ Ok taken → MovesBy place taken.place taken.content
-unfolding equal_taken
+equal_moves : (place : Place) (names : Table) (name : List ℕ) (e : Expr) (taken : Effect) → equal_effect place names name e ≡ Ok taken → MovesBy place taken.place taken.content
+unfolding equal_effect
 equal_moves place names name e taken h = names_move place (equal_named names (pos (address_of place)) name e) taken h
 
 after_put : (content : Content) (q r : Result Place Cause) (put : Content × Place) → ((after : Place) → q ≡ Ok after → r ≡ Ok after) → (q >>= λ after. Ok (content, after)) ≡ Ok put → (content ≡ put.0) × (r ≡ Ok put.1)
@@ -273,20 +274,20 @@ put_moves place names (Ok content) put e =
     ap (λ (c : Content). after_cells place (cells_filled place.part c)) (sym moved.0) ∙ moved.1
 put_moves place names (Err c) put e = cc
 
-put_taken_moves : (place : Place) (names : Table) (r : Result (Content × Place) Cause) (taken : Taken) → ((put : Content × Place) → r ≡ Ok put → after_cells place (cells_filled place.part put.0) ≡ Ok put.1) → (r >>= λ put. Ok (record { place = put.1; names = names; content = Some put.0 })) ≡ Ok taken → MovesBy place taken.place taken.content
-put_taken_moves place names (Ok put) taken here h =
-    let t : Taken = record { place = put.1; names = names; content = Some put.0 } in
-    subst (λ (u : Taken). MovesBy place u.place u.content) (ok_is t taken h) (here put refl)
-put_taken_moves place names (Err c) taken here h = cc
+put_effect_moves : (place : Place) (names : Table) (r : Result (Content × Place) Cause) (taken : Effect) → ((put : Content × Place) → r ≡ Ok put → after_cells place (cells_filled place.part put.0) ≡ Ok put.1) → (r >>= λ put. Ok (record { place = put.1; names = names; content = Some put.0 })) ≡ Ok taken → MovesBy place taken.place taken.content
+put_effect_moves place names (Ok put) taken here h =
+    let t : Effect = record { place = put.1; names = names; content = Some put.0 } in
+    subst (λ (u : Effect). MovesBy place u.place u.content) (ok_is t taken h) (here put refl)
+put_effect_moves place names (Err c) taken here h = cc
 
-content_moves : (place : Place) (names : Table) (s : Statement) (taken : Taken) → content_taken place names s ≡ Ok taken → MovesBy place taken.place taken.content
-unfolding content_taken content_put
+content_moves : (place : Place) (names : Table) (s : Statement) (taken : Effect) → content_effect place names s ≡ Ok taken → MovesBy place taken.place taken.content
+unfolding content_effect content_put
 content_moves place names s taken h =
-    put_taken_moves place names (content_put place names s) taken (λ put e. put_moves place names (content_of place names s) put e) h
+    put_effect_moves place names (content_put place names s) taken (λ put e. put_moves place names (content_of place names s) put e) h
 
-statement_moves : (place : Place) (names : Table) (s : Statement) (taken : Taken) → statement_taken place names s ≡ Ok taken → MovesBy place taken.place taken.content
+statement_moves : (place : Place) (names : Table) (s : Statement) (taken : Effect) → statement_effect place names s ≡ Ok taken → MovesBy place taken.place taken.content
 statement_moves place names Nothing taken h = stays place place names taken refl refl h
-statement_moves place names (Enter part) taken h = stays place (entered part place) names taken refl refl h
+statement_moves place names (Enter part) taken h = stays place (in_part part place) names taken refl refl h
 statement_moves place names (Equal name e) taken h = equal_moves place names name e taken h
 statement_moves place names (Whole i) taken h = content_moves place names (Whole i) taken h
 statement_moves place names (Asks demand values) taken h = content_moves place names (Asks demand values) taken h
@@ -294,34 +295,34 @@ statement_moves place names (LoadNumber rd source) taken h = content_moves place
 statement_moves place names (Zeros number) taken h = content_moves place names (Zeros number) taken h
 statement_moves place names (Align exponent) taken h = content_moves place names (Align exponent) taken h
 
-named_moves : (place : Place) (r : Result Table Cause) (s : Statement) (taken : Taken) → (r >>= λ named. statement_taken place named s) ≡ Ok taken → MovesBy place taken.place taken.content
+named_moves : (place : Place) (r : Result Table Cause) (s : Statement) (taken : Effect) → (r >>= λ named. statement_effect place named s) ≡ Ok taken → MovesBy place taken.place taken.content
 named_moves place (Ok named) s taken h = statement_moves place named s taken h
 named_moves place (Err c) s taken h = cc
 
-parts_move : (place : Place) (names : Table) (line : Line) (taken : Taken) → parts_taken place names line ≡ Ok taken → MovesBy place taken.place taken.content
-unfolding parts_taken
+parts_move : (place : Place) (names : Table) (line : Line) (taken : Effect) → parts_effect place names line ≡ Ok taken → MovesBy place taken.place taken.content
+unfolding parts_effect
 parts_move place names line taken h =
     let named = with_labels names (pos (address_of place)) line.labels in
-    named_moves place named line.statement taken (unless_ok (is_misplaced place.part line.statement) BadLine (named >>= λ n. statement_taken place n line.statement) taken h)
+    named_moves place named line.statement taken (unless_ok (is_misplaced place.part line.statement) BadLine (named >>= λ n. statement_effect place n line.statement) taken h)
 
-read_moves : (place : Place) (names : Table) (line : Option Line) (taken : Taken) → read_taken place names line ≡ Ok taken → MovesBy place taken.place taken.content
+read_moves : (place : Place) (names : Table) (line : Option Line) (taken : Effect) → read_effect place names line ≡ Ok taken → MovesBy place taken.place taken.content
 read_moves place names None taken h = cc
 read_moves place names (Some line) taken h = parts_move place names line taken h
 
-line_moves : (place : Place) (names : Table) (bytes : List ℕ) (taken : Taken) → line_taken place names bytes ≡ Ok taken → MovesBy place taken.place taken.content
-unfolding line_taken
+line_moves : (place : Place) (names : Table) (bytes : List ℕ) (taken : Effect) → line_effect place names bytes ≡ Ok taken → MovesBy place taken.place taken.content
+unfolding line_effect
 line_moves place names bytes taken h = read_moves place names (line_of bytes) taken h
 
-taken_counted : (layout next : Layout) (number : ℕ) (r : Result Taken Cause) → ((taken : Taken) → r ≡ Ok taken → MovesBy layout.place taken.place taken.content) → (r >>= λ taken. Ok (with_taken layout number taken)) ≡ Ok next → IsCounted layout.place layout.placed → IsCounted next.place next.placed
-taken_counted layout next number (Ok taken) moves h counted =
+effect_counted : (layout next : Layout) (number : ℕ) (r : Result Effect Cause) → ((taken : Effect) → r ≡ Ok taken → MovesBy layout.place taken.place taken.content) → (r >>= λ taken. Ok (with_effect layout number taken)) ≡ Ok next → IsCounted layout.place layout.placed → IsCounted next.place next.placed
+effect_counted layout next number (Ok taken) moves h counted =
     let here = counted_put layout.place taken.place number layout.placed taken.content (moves taken refl) counted in
-    subst (λ (l : Layout). IsCounted l.place l.placed) (ok_is (with_taken layout number taken) next h) here
-taken_counted layout next number (Err c) moves h counted = cc
+    subst (λ (l : Layout). IsCounted l.place l.placed) (ok_is (with_effect layout number taken) next h) here
+effect_counted layout next number (Err c) moves h counted = cc
 
 line_counted : (layout next : Layout) (number : ℕ) (line : List ℕ) → after_line layout number line ≡ Ok next → IsCounted layout.place layout.placed → IsCounted next.place next.placed
 unfolding after_line
 line_counted layout next number line h counted =
-    taken_counted layout next number (line_taken layout.place layout.names line) (λ taken e. line_moves layout.place layout.names line taken e) h counted
+    effect_counted layout next number (line_effect layout.place layout.names line) (λ taken e. line_moves layout.place layout.names line taken e) h counted
 
 counted_on : (r : Result Layout Cause) (f : Layout → Result Layout Cause) (last : Layout) → ((next : Layout) → r ≡ Ok next → IsCounted next.place next.placed) → ((next : Layout) → f next ≡ Ok last → IsCounted next.place next.placed → IsCounted last.place last.placed) → (r >>= f) ≡ Ok last → IsCounted last.place last.placed
 counted_on (Ok next) f last here onwards h = onwards next h (here next refl)
@@ -333,7 +334,7 @@ lines_counted layout last before (line ∷ more) h counted =
     counted_on (after_line layout (number_after before) line) (λ next. after_lines next (before + 1) more) last (λ next e. line_counted layout next (number_after before) line e counted) (λ next e c. lines_counted next last (before + 1) more e c) h
 
 -- the image of a program has room in memory
-image_has_room : (ls : List (List ℕ)) (image : Image) → IsImageOf ls image → HasRoom image
+image_has_room : (ls : List (List ℕ)) (image : Image) → IsImageOf ls image → IsWithinRegions image
 image_has_room ls image is =
     let counted = lines_counted start is.layout 0 ls is.laid (record { words = refl; bytes = refl; words_fit = omega arith; bytes_fit = omega arith }) in
     let names = is.layout.names in
@@ -347,6 +348,6 @@ image_has_room ls image is =
       values = omega (arith, values, values_length (flat_map (data_bytes names) ps), bytes, counted.bytes, counted.bytes_fit);
     }
 
-pub room_if_ok : (ls : List (List ℕ)) (layout : Layout) (outcome : Result Image AsmFault) → layout_of ls ≡ Ok layout → IfOk outcome (HasPlaced layout.names layout.placed) → IfOk outcome HasRoom
+pub room_if_ok : (ls : List (List ℕ)) (layout : Layout) (outcome : Result Image AsmFault) → layout_of ls ≡ Ok layout → IfOk outcome (HasPlaced layout.names layout.placed) → IfOk outcome IsWithinRegions
 room_if_ok ls layout (Ok image) laid has = image_has_room ls image (record { layout = layout; laid = laid; has = has })
 room_if_ok ls layout (Err f) laid has = has

@@ -2,8 +2,8 @@
 use Rattle.std.proofs.Common.{◌≡◌, ℕ, ◌+◌, ◌-◌, ◌≤◌, List, [], ◌∷◌, ◌++◌, length, take, get_or, ℤ, refl, ap, sym, ◌∙◌, arith}
 use Rattle.std.proofs.lemmas.List.{take_more}
 use Rattle.std.proofs.Math.Seq.{take-length}
-use Rattle.rv_asm.specs.declared.expression.Half.{Half}
-use Rattle.rv_asm.specs.declared.expression.Half.TheVariants.{High}
+use Rattle.rv_asm.specs.declared.line.expression.Half.{Half}
+use Rattle.rv_asm.specs.declared.line.expression.Half.TheVariants.{High}
 use Rattle.rv_asm.specs.Values.{half_of, halves_of}
 
 halves_of-more : (front : List Half) (half : Half) (z : ℤ) → halves_of (front ++ half ∷ []) z ≡ halves_of front (half_of half z)

@@ -8,7 +8,7 @@ use Rattle.rv_asm.specs.declared.image.Image.{Image}
 use Rattle.rv_asm.specs.declared.fault.AsmFault.{AsmFault}
 use Rattle.rv_asm.specs.declared.fault.AsmFault.TheVariants.{BadLine, Range, UnknownName, Twice, Memory}
 use Rattle.rv_asm.specs.Lines.{last_line, number_after}
-use Rattle.rv_asm.specs.Programs.{HasRoom}
+use Rattle.rv_asm.specs.Regions.{IsWithinRegions}
 use Rattle.rv_asm.specs.WordFile.{HasWords, IsLineFault, IsRight, IsWordFault, places_from, TakesLine, word_line, words_of, words_on}
 
 -- the lines before the rest are right, the image has their words, and n is the number of the last of them
@@ -77,7 +77,7 @@ places_as_long n (line ∷ more) =
     ∙ ap (λ k. length (words_on line) + k) (places_as_long (n + 1) more)
     ∙ sym (length-append (words_on line) (words_of more))
 
-pub words_have_room : (ls : List (List ℕ)) (image : Image) → HasWords ls image → HasRoom image
+pub words_have_room : (ls : List (List ℕ)) (image : Image) → HasWords ls image → IsWithinRegions image
 words_have_room ls image has = record {
   text = let e = ap length has.text in let r = has.right.room in omega arith;
   lines = ap length has.lines ∙ places_as_long 0 ls ∙ sym (ap length has.text);

@@ -1,11 +1,11 @@
 -- What is wrong with a line, and what functions answer that find it.
 use Rattle.std.specs.Prelude.{◌≡◌, ℕ, Result, Ok, Err}
-use Rattle.rv_asm.specs.declared.cause.Cause.{Cause}
-use Rattle.rv_asm.specs.declared.cause.Cause.TheVariants as cause
+use Rattle.rv_asm.specs.declared.layout.cause.Cause.{Cause}
+use Rattle.rv_asm.specs.declared.layout.cause.Cause.TheVariants as cause
 use Rattle.rv_asm.specs.declared.fault.AsmFault.{AsmFault}
 use Rattle.rv_asm.specs.declared.fault.AsmFault.TheVariants as fault
-use Rattle.rv_asm.specs.declared.reading.Unread.{Unread}
-use Rattle.rv_asm.specs.declared.reading.Unread.TheVariants as unread
+use Rattle.rv_asm.specs.declared.line.reading.Unread.{Unread}
+use Rattle.rv_asm.specs.declared.line.reading.Unread.TheVariants as unread
 
 abbrev pub cause_of : Unread → Cause
 cause_of unread.Memory = cause.Memory

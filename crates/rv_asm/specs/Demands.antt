@@ -5,13 +5,13 @@ use Rattle.rv_isa.specs.Words.{shift_funct7, word_of}
 use Rattle.rv_isa.specs.declared.instruction.Instr.{Instr}
 use Rattle.rv_isa.specs.declared.instruction.Instr.TheVariants as instr
 use Rattle.rv_isa.specs.declared.instruction.ImmOp.TheVariants.{Addi}
-use Rattle.rv_asm.specs.declared.cause.Cause.{Cause}
-use Rattle.rv_asm.specs.declared.cause.Cause.TheVariants.{Range}
-use Rattle.rv_asm.specs.declared.expression.Expr.{Expr}
-use Rattle.rv_asm.specs.declared.statement.Size.{Size}
-use Rattle.rv_asm.specs.declared.statement.Size.TheVariants.{Byte, Half, Word}
-use Rattle.rv_asm.specs.declared.statement.Demand.{Demand}
-use Rattle.rv_asm.specs.declared.statement.Demand.TheVariants as for
+use Rattle.rv_asm.specs.declared.layout.cause.Cause.{Cause}
+use Rattle.rv_asm.specs.declared.layout.cause.Cause.TheVariants.{Range}
+use Rattle.rv_asm.specs.declared.line.expression.Expr.{Expr}
+use Rattle.rv_asm.specs.declared.line.statement.Size.{Size}
+use Rattle.rv_asm.specs.declared.line.statement.Size.TheVariants.{Byte, Half, Word}
+use Rattle.rv_asm.specs.declared.line.statement.Demand.{Demand}
+use Rattle.rv_asm.specs.declared.line.statement.Demand.TheVariants as for
 use Rattle.rv_asm.specs.Causes.{◌>>=◌}
 use Rattle.rv_asm.specs.Names.{Table}
 use Rattle.rv_asm.specs.Values.{high_half, low_half, low_word, value_of}
@@ -28,6 +28,12 @@ is_short z = is_from (neg_ℤ (pos 2048)) (pos 2047) z
 abbrev pub is_even : ℤ → Bool
 is_even z = unsigned_abs z % 2 == 0
 
+abbrev pub is_branch_offset : ℤ → Bool
+is_branch_offset z = is_from (neg_ℤ (pos 4096)) (pos 4094) z && is_even z
+
+abbrev pub is_jump_offset : ℤ → Bool
+is_jump_offset z = is_from (neg_ℤ (pos 1048576)) (pos 1048574) z && is_even z
+
 abbrev pub is_operand : Option ℕ → ℤ → Bool
 is_operand (Some funct7) z = is_from (pos 0) (pos 31) z
 is_operand None z = is_short z
@@ -38,10 +44,10 @@ is_fit (instr.Reg op rd rs1 rs2) = nat_lt rd 32 && nat_lt rs1 32 && nat_lt rs2 3
 is_fit (instr.Imm op rd rs1 imm) = nat_lt rd 32 && nat_lt rs1 32 && is_operand (shift_funct7 op) imm
 is_fit (instr.Load op rd rs1 imm) = nat_lt rd 32 && nat_lt rs1 32 && is_short imm
 is_fit (instr.Store op rs1 rs2 imm) = nat_lt rs1 32 && nat_lt rs2 32 && is_short imm
-is_fit (instr.Branch op rs1 rs2 offset) = nat_lt rs1 32 && nat_lt rs2 32 && is_from (neg_ℤ (pos 4096)) (pos 4094) offset && is_even offset
+is_fit (instr.Branch op rs1 rs2 offset) = nat_lt rs1 32 && nat_lt rs2 32 && is_branch_offset offset
 is_fit (instr.Lui rd imm) = nat_lt rd 32 && nat_lt imm (2 ^ 20)
 is_fit (instr.Auipc rd imm) = nat_lt rd 32 && nat_lt imm (2 ^ 20)
-is_fit (instr.Jal rd offset) = nat_lt rd 32 && is_from (neg_ℤ (pos 1048576)) (pos 1048574) offset && is_even offset
+is_fit (instr.Jal rd offset) = nat_lt rd 32 && is_jump_offset offset
 is_fit (instr.Jalr rd rs1 imm) = nat_lt rd 32 && nat_lt rs1 32 && is_short imm
 is_fit instr.Fence = true
 is_fit instr.Ecall = true
@@ -86,18 +92,22 @@ number_words rd word =
 
 -- ---- what a value fills
 
--- the instruction whose field a value is; a target is an address, and its offset is from the instruction's own address
+-- the instruction that has a value in an offset or a field of 20 bits; a target is an address, and its offset is from
+-- the instruction's own address
+abbrev pub wide_field_of : Demand → ℤ → ℤ → Result Instr Cause
+wide_field_of (for.Branch op rs1 rs2) here z = signed_word (z -ℤ here) >>= λ o. Ok (instr.Branch op rs1 rs2 o)
+wide_field_of (for.Lui rd) here z = unsigned_word z >>= λ imm. Ok (instr.Lui rd imm)
+wide_field_of (for.Auipc rd) here z = unsigned_word z >>= λ imm. Ok (instr.Auipc rd imm)
+wide_field_of (for.Jal rd) here z = signed_word (z -ℤ here) >>= λ o. Ok (instr.Jal rd o)
+wide_field_of demand here z = Err Range
+
+-- the instruction whose field a value is
 abbrev pub field_of : Demand → ℤ → ℤ → Result Instr Cause
 field_of (for.Imm op rd rs1) here z = signed_word z >>= λ imm. Ok (instr.Imm op rd rs1 imm)
 field_of (for.Load op rd rs1) here z = signed_word z >>= λ imm. Ok (instr.Load op rd rs1 imm)
 field_of (for.Store op rs1 rs2) here z = signed_word z >>= λ imm. Ok (instr.Store op rs1 rs2 imm)
-field_of (for.Branch op rs1 rs2) here z = signed_word (z -ℤ here) >>= λ offset. Ok (instr.Branch op rs1 rs2 offset)
-field_of (for.Lui rd) here z = unsigned_word z >>= λ imm. Ok (instr.Lui rd imm)
-field_of (for.Auipc rd) here z = unsigned_word z >>= λ imm. Ok (instr.Auipc rd imm)
-field_of (for.Jal rd) here z = signed_word (z -ℤ here) >>= λ offset. Ok (instr.Jal rd offset)
 field_of (for.Jalr rd rs1) here z = signed_word z >>= λ imm. Ok (instr.Jalr rd rs1 imm)
-field_of (for.Address rd) here z = Err Range
-field_of (for.Value size) here z = Err Range
+field_of demand here z = wide_field_of demand here z
 
 unfoldable pub field_words : Demand → ℤ → ℤ → Result (List ℕ) Cause
 field_words demand here z = do

@@ -1,25 +1,27 @@
--- Where each line's statement stands, which names it defines, and what is wrong with it by what it and the lines before it hold.
+-- Where each line's statement stands, which names it defines, and what is wrong with it by what it and the lines before it
+-- hold.
 use Rattle.std.specs.Prelude.{ℕ, ◌+◌, ◌-◌, ◌*◌, ◌/◌, ◌%◌, ◌^◌, ◌==◌, nat_le, ℤ, pos, negsuc, Bool, true, false, not, if◌then◌else◌, List, [], ◌∷◌, ◌++◌, length, Option, Some, None, is_some, Result, Ok, Err}
 use Rattle.rv_isa.specs.Words.{word_of}
 use Rattle.rv_isa.specs.declared.instruction.Instr.{Instr}
-use Rattle.rv_asm.specs.declared.cause.Cause.{Cause}
-use Rattle.rv_asm.specs.declared.cause.Cause.TheVariants.{BadLine, UnknownName, Range, Twice}
-use Rattle.rv_asm.specs.declared.expression.Expr.{Expr}
-use Rattle.rv_asm.specs.declared.expression.Term.{Term}
-use Rattle.rv_asm.specs.declared.expression.Term.TheVariants.{Number, Name, Here}
-use Rattle.rv_asm.specs.declared.names.Meaning.{Meaning}
-use Rattle.rv_asm.specs.declared.statement.Part.{Part}
-use Rattle.rv_asm.specs.declared.statement.Part.TheVariants.{Text, Data}
-use Rattle.rv_asm.specs.declared.statement.Size.TheVariants.{Byte, Half, Word}
-use Rattle.rv_asm.specs.declared.statement.Demand.{Demand}
-use Rattle.rv_asm.specs.declared.statement.Demand.TheVariants as for
-use Rattle.rv_asm.specs.declared.statement.Statement.{Statement}
-use Rattle.rv_asm.specs.declared.statement.Statement.TheVariants.{Nothing, Whole, Asks, LoadNumber, Enter, Zeros, Align, Equal}
-use Rattle.rv_asm.specs.declared.statement.Line.{Line}
-use Rattle.rv_asm.specs.declared.place.Place.{Place}
-use Rattle.rv_asm.specs.declared.content.Content.{Content}
-use Rattle.rv_asm.specs.declared.content.Content.TheVariants.{Known, Fill, Asked}
+use Rattle.rv_asm.specs.declared.layout.cause.Cause.{Cause}
+use Rattle.rv_asm.specs.declared.layout.cause.Cause.TheVariants.{BadLine, UnknownName, Range, Twice}
+use Rattle.rv_asm.specs.declared.line.expression.Expr.{Expr}
+use Rattle.rv_asm.specs.declared.line.expression.Term.{Term}
+use Rattle.rv_asm.specs.declared.line.expression.Term.TheVariants.{Number, Name, Here}
+use Rattle.rv_asm.specs.declared.layout.names.Meaning.{Meaning}
+use Rattle.rv_asm.specs.declared.line.statement.Part.{Part}
+use Rattle.rv_asm.specs.declared.line.statement.Part.TheVariants.{Text, Data}
+use Rattle.rv_asm.specs.declared.line.statement.Size.TheVariants.{Byte, Half, Word}
+use Rattle.rv_asm.specs.declared.line.statement.Demand.{Demand}
+use Rattle.rv_asm.specs.declared.line.statement.Demand.TheVariants as for
+use Rattle.rv_asm.specs.declared.line.statement.Statement.{Statement}
+use Rattle.rv_asm.specs.declared.line.statement.Statement.TheVariants.{Nothing, Whole, Asks, LoadNumber, Enter, Zeros, Align, Equal}
+use Rattle.rv_asm.specs.declared.line.statement.Line.{Line}
+use Rattle.rv_asm.specs.declared.layout.place.Place.{Place}
+use Rattle.rv_asm.specs.declared.layout.content.Content.{Content}
+use Rattle.rv_asm.specs.declared.layout.content.Content.TheVariants.{Known, Fill, Asked}
 use Rattle.rv_asm.specs.Causes.{◌>>=◌}
+use Rattle.rv_asm.specs.Regions.{most_cells}
 use Rattle.rv_asm.specs.Names.{meaning_of, Table}
 use Rattle.rv_asm.specs.Values.{is_known, low_word, value_of, written}
 use Rattle.rv_asm.specs.Demands.{any_outside, byte_count, fit_word, is_stored, number_words, word_count}
@@ -27,10 +29,6 @@ use Rattle.rv_asm.specs.Statements.{nop}
 use Rattle.rv_asm.specs.SourceLines.{line_of}
 
 -- ---- places: the part, the words that stand in the text so far, and the bytes that stand in the data so far
-
--- the most words of the text, and the most bytes of the data
-abbrev pub most_cells : ℕ
-most_cells = 4096
 
 abbrev pub address_in : Part → Place → ℕ
 address_in Text place = 4 * place.words
@@ -52,8 +50,8 @@ abbrev pub after_cells : Place → ℕ → Result Place Cause
 after_cells place count =
     if nat_le (used_in place.part place + count) most_cells then Ok (moved_in place.part place count) else Err Range
 
-abbrev pub entered : Part → Place → Place
-entered part place = record { part = part; words = place.words; bytes = place.bytes }
+abbrev pub in_part : Part → Place → Place
+in_part part place = record { part = part; words = place.words; bytes = place.bytes }
 
 -- ---- what statements put at their place
 
@@ -139,12 +137,15 @@ has_outside names place content = false
 
 -- ---- names
 
+abbrev pub number_meaning : ℤ → Result Meaning Cause
+number_meaning z = if is_stored Word z then Ok (record { value = z; is_number = true }) else Err Range
+
 -- `.equ`: a new name, for names that are defined, and a number that a word stores
 abbrev pub equal_meaning : Table → ℤ → List ℕ → Expr → Result Meaning Cause
 equal_meaning names here name e =
     if is_some (meaning_of names name) then Err Twice
     else if not (is_known names e) then Err UnknownName
-    else value_of names here e >>= λ z. if is_stored Word z then Ok (record { value = z; is_number = true }) else Err Range
+    else value_of names here e >>= number_meaning
 
 -- the names with that one
 unfoldable pub equal_named : Table → ℤ → List ℕ → Expr → Result Table Cause
@@ -180,15 +181,18 @@ is_misplaced part (Asks demand values) = is_misplaced_value part demand
 is_misplaced part s = false
 
 -- what a line does: the place behind it, the names, and what it puts at the place before it
-pub record Taken : Type 0 where
+pub record Effect : Type 0 where
   pub place : Place
   pub names : Table
   pub content : Option Content
 
-unfoldable pub equal_taken : Place → Table → List ℕ → Expr → Result Taken Cause
-equal_taken place names name e = do
+abbrev pub effect_of : Place → Table → Option Content → Effect
+effect_of place names content = record { place = place; names = names; content = content }
+
+unfoldable pub equal_effect : Place → Table → List ℕ → Expr → Result Effect Cause
+equal_effect place names name e = do
   named ← equal_named names (pos (address_of place)) name e
-  Ok (record { place = place; names = named; content = None })
+  Ok (effect_of place named None)
 
 -- the place behind a content, where no value is outside what is asked for
 unfoldable pub put_place : Place → Table → Content → Result Place Cause
@@ -202,27 +206,27 @@ content_put place names s = do
   after ← put_place place names content
   Ok (content, after)
 
-unfoldable pub content_taken : Place → Table → Statement → Result Taken Cause
-content_taken place names s = do
+unfoldable pub content_effect : Place → Table → Statement → Result Effect Cause
+content_effect place names s = do
   put ← content_put place names s
-  Ok (record { place = put.1; names = names; content = Some put.0 })
+  Ok (effect_of put.1 names (Some put.0))
 
-abbrev pub statement_taken : Place → Table → Statement → Result Taken Cause
-statement_taken place names Nothing = Ok (record { place = place; names = names; content = None })
-statement_taken place names (Enter part) = Ok (record { place = entered part place; names = names; content = None })
-statement_taken place names (Equal name e) = equal_taken place names name e
-statement_taken place names s = content_taken place names s
+abbrev pub statement_effect : Place → Table → Statement → Result Effect Cause
+statement_effect place names Nothing = Ok (effect_of place names None)
+statement_effect place names (Enter part) = Ok (effect_of (in_part part place) names None)
+statement_effect place names (Equal name e) = equal_effect place names name e
+statement_effect place names s = content_effect place names s
 
 -- a fault of form, then a name that is defined before, then what the statement makes
-unfoldable pub parts_taken : Place → Table → Line → Result Taken Cause
-parts_taken place names line =
+unfoldable pub parts_effect : Place → Table → Line → Result Effect Cause
+parts_effect place names line =
     if is_misplaced place.part line.statement then Err BadLine
-    else with_labels names (pos (address_of place)) line.labels >>= λ named. statement_taken place named line.statement
+    else with_labels names (pos (address_of place)) line.labels >>= λ ns. statement_effect place ns line.statement
 
-abbrev pub read_taken : Place → Table → Option Line → Result Taken Cause
-read_taken place names None = Err BadLine
-read_taken place names (Some line) = parts_taken place names line
+abbrev pub read_effect : Place → Table → Option Line → Result Effect Cause
+read_effect place names None = Err BadLine
+read_effect place names (Some line) = parts_effect place names line
 
 -- what the bytes of a line do
-unfoldable pub line_taken : Place → Table → List ℕ → Result Taken Cause
-line_taken place names bytes = read_taken place names (line_of bytes)
+unfoldable pub line_effect : Place → Table → List ℕ → Result Effect Cause
+line_effect place names bytes = read_effect place names (line_of bytes)

@@ -1,8 +1,10 @@
 pub mod Lines
+pub mod Regions
 pub mod WordFile
 pub mod Readings
 pub mod Tokens
 pub mod Numbers
+pub mod Tables
 pub mod Registers
 pub mod Expressions
 pub mod Mnemonics

@@ -1,15 +1,15 @@
 -- What mnemonics and directives ask for.
--- RISC-V Unprivileged ISA, "RV32/64G Instruction Set Listings" and "RISC-V Assembly Programmer's Handbook": "RISC-V pseudoinstructions".
-use Rattle.std.specs.Prelude.{ℕ, List, [], ◌∷◌, Option, codes}
-use Rattle.std.specs.Option.{option_or}
+-- RISC-V Unprivileged ISA, "RV32/64G Instruction Set Listings" and "RISC-V Assembly Programmer's Handbook": "RISC-V
+-- pseudoinstructions".
+use Rattle.std.specs.Prelude.{ℕ, List, [], ◌∷◌, ◌++◌, Option, codes}
 use Rattle.rv_isa.specs.declared.instruction.RegOp.TheVariants.{Add, Sub, Sll, Slt, Sltu, Xor, Srl, Sra, Or, And}
 use Rattle.rv_isa.specs.declared.instruction.ImmOp.TheVariants.{Addi, Slti, Sltiu, Xori, Ori, Andi, Slli, Srli, Srai}
 use Rattle.rv_isa.specs.declared.instruction.LoadOp.TheVariants.{Lb, Lh, Lw, Lbu, Lhu}
 use Rattle.rv_isa.specs.declared.instruction.StoreOp.TheVariants.{Sb, Sh, Sw}
 use Rattle.rv_isa.specs.declared.instruction.BranchOp.TheVariants.{Beq, Bne, Blt, Bge, Bltu, Bgeu}
-use Rattle.rv_asm.specs.declared.mnemonics.Form.{Form}
-use Rattle.rv_asm.specs.declared.mnemonics.Form.TheVariants.{Reg, Imm, Load, Store, Branch, Exchanged, Second, First, Move, Invert, Negate, IsZero, IsNotZero, IsNegative, IsPositive, Jal, Jalr, Jump, JumpRegister, Return, Call, Lui, Auipc, LoadNumber, LoadAddress, Nop, FenceAll, EnvironmentCall, Break, TextPart, DataPart, Section, Words, Halves, Bytes, Zeros, Power, Multiple, Equal, Ignored}
-use Rattle.rv_asm.specs.Registers.{named}
+use Rattle.rv_asm.specs.declared.line.mnemonics.Form.{Form}
+use Rattle.rv_asm.specs.declared.line.mnemonics.Form.TheVariants.{Reg, Imm, Load, Store, Branch, Exchanged, Second, First, Move, Invert, Negate, IsZero, IsNotZero, IsNegative, IsPositive, Jal, Jalr, Jump, JumpRegister, Return, Call, Lui, Auipc, LoadNumber, LoadAddress, Nop, FenceAll, EnvironmentCall, Break, TextPart, DataPart, Section, Words, Halves, Bytes, Zeros, Power, Multiple, Equal, Ignored}
+use Rattle.rv_asm.specs.Tables.{look_up}
 
 -- operations on two registers
 abbrev pub reg_mnemonics : List (List ℕ × Form)
@@ -124,7 +124,10 @@ name_directives = (codes ".equ", Equal) ∷ (codes ".set", Equal) ∷ []
 
 -- ignored, on symbols
 abbrev pub symbol_directives : List (List ℕ × Form)
-symbol_directives = (codes ".globl", Ignored) ∷ (codes ".global", Ignored) ∷ (codes ".weak", Ignored) ∷ (codes ".local", Ignored) ∷ []
+symbol_directives = (codes ".globl", Ignored)
+    ∷ (codes ".global", Ignored)
+    ∷ (codes ".weak", Ignored)
+    ∷ (codes ".local", Ignored) ∷ []
 
 -- ignored, on what symbols stand for
 abbrev pub shape_directives : List (List ℕ × Form)
@@ -138,16 +141,14 @@ file_directives = (codes ".file", Ignored) ∷ (codes ".ident", Ignored) ∷ []
 abbrev pub option_directives : List (List ℕ × Form)
 option_directives = (codes ".option", Ignored) ∷ (codes ".attribute", Ignored) ∷ []
 
--- what a directive asks for
-unfoldable pub directive_of : List ℕ → Option Form
-directive_of name =
-    option_or (named part_directives name) (option_or (named value_directives name) (option_or (named zero_directives name) (option_or (named align_directives name) (option_or (named name_directives name) (option_or (named symbol_directives name) (option_or (named shape_directives name) (option_or (named file_directives name) (named option_directives name))))))))
-
--- what a mnemonic asks for
-unfoldable pub mnemonic_of : List ℕ → Option Form
-mnemonic_of name =
-    option_or (named reg_mnemonics name) (option_or (named imm_mnemonics name) (option_or (named memory_mnemonics name) (option_or (named branch_mnemonics name) (option_or (named zero_mnemonics name) (option_or (named copy_mnemonics name) (option_or (named jump_mnemonics name) (option_or (named value_mnemonics name) (named system_mnemonics name))))))))
+-- all words that begin a statement: mnemonics, and then directives
+abbrev pub statement_words : List (List ℕ × Form)
+statement_words =
+    reg_mnemonics ++ imm_mnemonics ++ memory_mnemonics ++ branch_mnemonics ++ zero_mnemonics ++ copy_mnemonics
+    ++ jump_mnemonics ++ value_mnemonics ++ system_mnemonics
+    ++ part_directives ++ value_directives ++ zero_directives ++ align_directives ++ name_directives
+    ++ symbol_directives ++ shape_directives ++ file_directives ++ option_directives
 
 -- what a word asks for that begins a statement
 unfoldable pub form_of : List ℕ → Option Form
-form_of name = option_or (mnemonic_of name) (directive_of name)
+form_of name = look_up statement_words name

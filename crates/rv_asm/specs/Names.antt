@@ -3,7 +3,7 @@ use Rattle.std.specs.Prelude.{ℕ, List, Option, map, Vec}
 use Rattle.std.specs.Map.{lookup}
 use Rattle.std.specs.Str.{bytes_eq}
 use Rattle.std.specs.declared.alloc.Global.{Global}
-use Rattle.rv_asm.specs.declared.names.Meaning.{Meaning}
+use Rattle.rv_asm.specs.declared.layout.names.Meaning.{Meaning}
 
 -- names in order of definition
 abbrev pub Table : Type 0

@@ -1,57 +1,37 @@
--- Numbers as they are written.
-use Rattle.std.specs.Prelude.{ℕ, ◌+◌, ◌-◌, ◌*◌, ◌^◌, ◌==◌, nat_le, ℤ, pos, neg_ℤ, Bool, true, false, if◌then◌else◌, List, [], ◌∷◌, drop, Option, Some, None, codes, min}
-use Rattle.std.specs.List.{starts_with}
-use Rattle.rv_asm.specs.declared.numbers.Base.{Base}
-use Rattle.rv_asm.specs.declared.numbers.Base.TheVariants.{Ten, Sixteen}
+-- Numbers as they are written in a line.
+use Rattle.std.specs.Prelude.{ℕ, ◌-◌, ◌^◌, ℤ, pos, neg_ℤ, Bool, true, false, List, Option, Some, None, Result, Ok, Err}
+use Rattle.coco_base.specs.declared.number.NumberFault.{NumberFault}
+use Rattle.coco_base.specs.declared.number.NumberFault.TheVariants.{NotDigits, TooLarge}
+use Rattle.coco_base.specs.Numbers.{literal_of}
 use Rattle.rv_asm.specs.Readings.{◌>>=◌}
-use Rattle.rv_asm.specs.Tokens.{after_blanks, after_byte, is_digit, is_within, run_at}
+use Rattle.rv_asm.specs.Tokens.{after_blanks, after_byte, run_at}
 
-abbrev pub worth : Base → ℕ
-worth Ten = 10
-worth Sixteen = 16
+-- the greatest magnitude of a number with a minus sign, and without one
+abbrev pub most_magnitude : Bool → ℕ
+most_magnitude true = 2 ^ 31
+most_magnitude false = 2 ^ 32 - 1
 
--- the value of a digit
-abbrev pub digit_of : Base → ℕ → Option ℕ
-digit_of Ten byte = if is_digit byte then Some (byte - 48) else None
-digit_of Sixteen byte =
-    if is_digit byte then Some (byte - 48)
-    else if is_within 97 102 byte then Some (byte - 87)
-    else if is_within 65 70 byte then Some (byte - 55)
-    else None
+abbrev pub with_sign : Bool → ℕ → ℤ
+with_sign true n = neg_ℤ (pos n)
+with_sign false n = pos n
 
--- the number of digits that follow those of a value
-abbrev pub digits_on : Base → ℕ → List ℕ → Option ℕ
-digits_on base value [] = Some value
-digits_on base value (byte ∷ more) = digit_of base byte >>= λ d. digits_on base (value * worth base + d) more
+-- what a literal says: a number, nothing for a number that is too great, and else it is none
+abbrev pub value_of_literal : Bool → Result ℕ NumberFault → Option (Option ℤ)
+value_of_literal negative (Ok n) = Some (Some (with_sign negative n))
+value_of_literal negative (Err TooLarge) = Some None
+value_of_literal negative (Err NotDigits) = None
 
--- the number of digits, one at least
-abbrev pub digits_value : Base → List ℕ → Option ℕ
-digits_value base [] = None
-digits_value base (byte ∷ more) = digits_on base 0 (byte ∷ more)
-
--- a word that is a number: decimal digits, or `0x` and hexadecimal digits
-unfoldable pub number_word : List ℕ → Option ℕ
-number_word word = if starts_with ◌==◌ word (codes "0x") then digits_value Sixteen (drop 2 word) else digits_value Ten word
-
--- the value of a number with its sign, where it is from -2147483648 to 4294967295
-abbrev pub literal : Bool → ℕ → Option ℤ
-literal true n = if nat_le n (2 ^ 31) then Some (neg_ℤ (pos n)) else None
-literal false n = if nat_le n (2 ^ 32 - 1) then Some (pos n) else None
-
-unfoldable pub unsigned_at : Bool → List ℕ → Option (Option ℤ × List ℕ)
-unsigned_at negative bytes = do
+-- decimal digits, or `0x` and hexadecimal digits; with its sign the number is from -2147483648 to 4294967295
+unfoldable pub magnitude_at : Bool → List ℕ → Option (Option ℤ × List ℕ)
+magnitude_at negative bytes = do
   run ← run_at bytes
-  n ← number_word run.0
-  Some (literal negative n, run.1)
+  value ← value_of_literal negative (literal_of (most_magnitude negative) run.0)
+  Some (value, run.1)
 
 abbrev pub signed_at : List ℕ → Option (List ℕ) → Option (Option ℤ × List ℕ)
-signed_at bytes None = unsigned_at false bytes
-signed_at bytes (Some rest) = unsigned_at true rest
+signed_at bytes None = magnitude_at false bytes
+signed_at bytes (Some rest) = magnitude_at true rest
 
 -- a number, with blanks before it; inside it none
 unfoldable pub number_at : List ℕ → Option (Option ℤ × List ℕ)
 number_at bytes = signed_at (after_blanks bytes) (after_byte 45 (after_blanks bytes))
-
--- a number that is no less where the true one is above all literals
-abbrev pub capped : ℕ → ℕ
-capped n = min n (2 ^ 33)

@@ -1,6 +1,6 @@
 -- The operands of statements, separated by commas, up to the line's end.
 use Rattle.std.specs.Prelude.{ℕ, ℤ, List, Option, Some}
-use Rattle.rv_asm.specs.declared.expression.Expr.{Expr}
+use Rattle.rv_asm.specs.declared.line.expression.Expr.{Expr}
 use Rattle.rv_asm.specs.Readings.{◌>>=◌, items_at, with_first}
 use Rattle.rv_asm.specs.Tokens.{ends, mark_at, name_at}
 use Rattle.rv_asm.specs.Numbers.{number_at}
@@ -18,8 +18,8 @@ unfoldable pub comma_expr_at : List ℕ → Option (Expr × List ℕ)
 comma_expr_at bytes = mark_at 44 bytes >>= expr_at
 
 -- a register in brackets
-unfoldable pub bracketed_at : List ℕ → Option (ℕ × List ℕ)
-bracketed_at bytes = do
+unfoldable pub base_at : List ℕ → Option (ℕ × List ℕ)
+base_at bytes = do
   inside ← mark_at 40 bytes
   register ← register_at inside
   after ← mark_at 41 register.1
@@ -58,19 +58,19 @@ unfoldable pub one_value : List ℕ → Option Expr
 one_value bytes = expr_at bytes >>= last
 
 -- a register, and a value with a register in brackets
-unfoldable pub indirect : List ℕ → Option (ℕ × Expr × ℕ)
-indirect bytes = do
+unfoldable pub register_value_and_base : List ℕ → Option (ℕ × Expr × ℕ)
+register_value_and_base bytes = do
   a ← register_at bytes
   e ← comma_expr_at a.1
-  b ← bracketed_at e.1
+  b ← base_at e.1
   last ((a.0, e.0, b.0), b.1)
 
 -- the same without a value, which stands for 0
-unfoldable pub indirect_alone : List ℕ → Option (ℕ × Expr × ℕ)
-indirect_alone bytes = do
+unfoldable pub register_and_base : List ℕ → Option (ℕ × Expr × ℕ)
+register_and_base bytes = do
   a ← register_at bytes
   after ← mark_at 44 a.1
-  b ← bracketed_at after
+  b ← base_at after
   last ((a.0, nought, b.0), b.1)
 
 -- a value, and all that follow it, each behind a comma

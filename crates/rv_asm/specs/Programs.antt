@@ -2,27 +2,26 @@
 use Rattle.std.specs.Prelude.{◌≡◌, ◌≤◌, ◌⊎◌, ℕ, pos, ◌+◌, Bool, false, true, if◌then◌else◌, List, [], ◌∷◌, ◌++◌, length, map, take, flat_map, Option, Some, None, Result, Ok, Err, IsOk, replicate}
 use Rattle.std.specs.List.{All, list_all}
 use Rattle.std.specs.Int.{from_le_bytes, to_le_bytes, w32}
-use Rattle.rv_asm.specs.declared.cause.Cause.{Cause}
-use Rattle.rv_asm.specs.declared.cause.Cause.TheVariants.{UnknownName}
+use Rattle.rv_asm.specs.declared.layout.cause.Cause.{Cause}
+use Rattle.rv_asm.specs.declared.layout.cause.Cause.TheVariants.{UnknownName}
 use Rattle.rv_asm.specs.declared.fault.AsmFault.{AsmFault}
 use Rattle.rv_asm.specs.declared.fault.AsmFault.TheVariants as fault
 use Rattle.rv_asm.specs.declared.image.Image.{Image}
-use Rattle.rv_asm.specs.declared.expression.Expr.{Expr}
-use Rattle.rv_asm.specs.declared.statement.Part.{Part}
-use Rattle.rv_asm.specs.declared.statement.Part.TheVariants.{Text, Data}
-use Rattle.rv_asm.specs.declared.place.Place.{Place}
-use Rattle.rv_asm.specs.declared.content.Content.{Content}
-use Rattle.rv_asm.specs.declared.content.Content.TheVariants.{Known, Fill, Asked}
+use Rattle.rv_asm.specs.declared.line.expression.Expr.{Expr}
+use Rattle.rv_asm.specs.declared.line.statement.Part.{Part}
+use Rattle.rv_asm.specs.declared.line.statement.Part.TheVariants.{Text, Data}
+use Rattle.rv_asm.specs.declared.layout.place.Place.{Place}
+use Rattle.rv_asm.specs.declared.layout.content.Content.{Content}
+use Rattle.rv_asm.specs.declared.layout.content.Content.TheVariants.{Known, Fill, Asked}
 use Rattle.rv_asm.specs.declared.layout.Placed.{Placed}
 use Rattle.rv_asm.specs.declared.layout.Layout.{Layout}
-use Rattle.rv_asm.specs.declared.assembler.Memory.{Memory}
+use Rattle.rv_asm.specs.declared.image.assembler.Memory.{Memory}
 use Rattle.rv_asm.specs.Causes.{◌>>=◌, fault_of}
 use Rattle.rv_asm.specs.Lines.{number_after}
-use Rattle.rv_asm.specs.WordFile.{most_words}
 use Rattle.rv_asm.specs.Names.{Table}
 use Rattle.rv_asm.specs.Values.{is_known}
 use Rattle.rv_asm.specs.Demands.{all_words}
-use Rattle.rv_asm.specs.Layouts.{address_of, bytes_each, has_outside, line_taken, Taken}
+use Rattle.rv_asm.specs.Layouts.{address_of, bytes_each, has_outside, line_effect, Effect}
 
 -- ---- lines one after the other
 
@@ -35,21 +34,25 @@ put_at place number None = []
 put_at place number (Some content) = record { place = place; content = content; line = number } ∷ []
 
 -- a line's statement stands at the place that the lines before it leave
-abbrev pub with_taken : Layout → ℕ → Taken → Layout
-with_taken layout number taken = record {
-  place = taken.place;
-  names = taken.names;
-  placed = layout.placed ++ put_at layout.place number taken.content;
+abbrev pub with_effect : Layout → ℕ → Effect → Layout
+with_effect layout number effect = record {
+  place = effect.place;
+  names = effect.names;
+  placed = layout.placed ++ put_at layout.place number effect.content;
 }
 
 -- the layout after one line more, which has this number
 unfoldable pub after_line : Layout → ℕ → List ℕ → Result Layout Cause
-after_line layout number line = line_taken layout.place layout.names line >>= λ taken. Ok (with_taken layout number taken)
+after_line layout number line = do
+  effect ← line_effect layout.place layout.names line
+  Ok (with_effect layout number effect)
 
 -- the layout after lines, where so many lines stand before the first of them
 abbrev pub after_lines : Layout → ℕ → List (List ℕ) → Result Layout Cause
 after_lines layout before [] = Ok layout
-after_lines layout before (line ∷ more) = after_line layout (number_after before) line >>= λ next. after_lines next (before + 1) more
+after_lines layout before (line ∷ more) = do
+  next ← after_line layout (number_after before) line
+  after_lines next (before + 1) more
 
 abbrev pub layout_of : List (List ℕ) → Result Layout Cause
 layout_of ls = after_lines start 0 ls
@@ -121,26 +124,20 @@ pub record HasPut (names : Table) (ps : List Placed) (memory : Memory) : Type 0 
   pub text : memory.image.text ≡ flat_map (text_words names) ps
   pub lines : memory.image.lines ≡ flat_map (text_lines names) ps
   pub values : memory.image.values ≡ []
-  pub bytes : memory.bytes ≡ flat_map (data_bytes names) ps
+  pub bytes : memory.bytes.items ≡ flat_map (data_bytes names) ps
 
 -- one line's words more
 pub record PutsWords (old new : Memory) (p : Placed) (words : List ℕ) : Type 0 where
   pub text : new.image.text ≡ old.image.text ++ in_text p.place.part words
   pub lines : new.image.lines ≡ old.image.lines ++ map (λ _. p.line) (in_text p.place.part words)
   pub values : new.image.values ≡ old.image.values
-  pub bytes : new.bytes ≡ old.bytes ++ in_data p.place.part (bytes_each p.content) words
+  pub bytes : new.bytes.items ≡ old.bytes.items ++ in_data p.place.part (bytes_each p.content) words
 
 -- the image of a program
 pub record IsImageOf (ls : List (List ℕ)) (image : Image) : Type 0 where
   pub layout : Layout
   pub laid : layout_of ls ≡ Ok layout
   pub has : HasPlaced layout.names layout.placed image
-
--- an image that has room in memory
-pub record HasRoom (image : Image) : Type 0 where
-  pub text : length image.text ≤ most_words
-  pub lines : length image.lines ≡ length image.text
-  pub values : length image.values ≤ 1024
 
 -- ---- faults
 
@@ -183,8 +180,8 @@ abbrev pub FailsUnlessMemory : Table → List Placed → AsmFault → Type 0
 FailsUnlessMemory names ps fault.Memory = Unit {0}
 FailsUnlessMemory names ps f = FailsAt names ps f
 
--- in a line before the least that is at fault by what it and the lines before it hold, a value may be outside what is asked for
--- with the names of lines before that one; and else that line is at fault
+-- in a line before the least that is at fault by what it and the lines before it hold, a value may be outside what is asked
+-- for with the names of lines before that one; and else that line is at fault
 abbrev pub EarlyFault : Table → List Placed → ℕ → Cause → AsmFault → Type 0
 EarlyFault names ps number cause f =
     ((n : ℕ) × IsOutsideAt names ps n × (f ≡ fault.Range n)) ⊎ (AreWithin names ps × (f ≡ fault_of number cause))
@@ -199,7 +196,8 @@ pub record StopsWith (ls : List (List ℕ)) (f : AsmFault) : Type 0 where
 -- what lines before a fault do, or all lines
 abbrev pub IsCutBy : List (List ℕ) → Layout → Option AsmFault → Type 0
 IsCutBy ls layout None = layout_of ls ≡ Ok layout
-IsCutBy ls layout (Some f) = (number : ℕ) × (cause : Cause) × StopsAt ls layout number cause × (f ≡ fault_of number cause)
+IsCutBy ls layout (Some f) =
+    (number : ℕ) × (cause : Cause) × StopsAt ls layout number cause × (f ≡ fault_of number cause)
 
 -- where no line is at fault by what it and the lines before it hold
 pub record FailsWith (ls : List (List ℕ)) (f : AsmFault) : Type 0 where

@@ -1,17 +1,12 @@
 -- Readings of the front of a line: a value and the bytes after it, or none.
 use Rattle.std.specs.Prelude.{◌≡◌, ℕ, zero, suc, List, [], ◌∷◌, length, Option, Some, None, Result, Ok, Err}
-use Rattle.rv_asm.specs.declared.reading.Unread.{Unread}
-use Rattle.rv_asm.specs.declared.reading.Unread.TheVariants.{Memory, Other}
+use Rattle.rv_asm.specs.declared.line.reading.Unread.{Unread}
+use Rattle.rv_asm.specs.declared.line.reading.Unread.TheVariants.{Memory, Other}
 
 infixl 10 ◌>>=◌
 abbrev pub ◌>>=◌ : {A B : Type 0} → Option A → (A → Option B) → Option B
 None >>= f = None
 (Some x) >>= f = f x
-
--- the first reading, and else the second
-abbrev pub either : {A : Type 0} → Option A → Option A → Option A
-either (Some x) other = Some x
-either None other = other
 
 -- ---- what a function of the code gives
 

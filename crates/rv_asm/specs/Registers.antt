@@ -1,15 +1,9 @@
 -- The names of registers.
 -- RISC-V Unprivileged ISA, "RISC-V Assembly Programmer's Handbook": "Assembler mnemonics for RISC-V integer registers".
-use Rattle.std.specs.Prelude.{ℕ, List, [], ◌∷◌, Option, Some, None, codes, if◌then◌else◌}
-use Rattle.std.specs.Option.{option_or}
-use Rattle.std.specs.Str.{bytes_eq}
+use Rattle.std.specs.Prelude.{ℕ, List, [], ◌∷◌, ◌++◌, Option, Some, codes}
+use Rattle.rv_asm.specs.Tables.{look_up}
 use Rattle.rv_asm.specs.Readings.{◌>>=◌}
 use Rattle.rv_asm.specs.Tokens.{word_at}
-
--- the value beside a name in a table
-abbrev pub named : {A : Type 0} → List (List ℕ × A) → List ℕ → Option A
-named [] name = None
-named (row ∷ rows) name = if bytes_eq row.0 name then Some row.1 else named rows name
 
 -- the registers of one use
 abbrev pub special_registers : List (List ℕ × ℕ)
@@ -94,10 +88,14 @@ high_registers = (codes "x16", 16)
     ∷ (codes "x30", 30)
     ∷ (codes "x31", 31) ∷ []
 
+-- all names of registers
+abbrev pub registers : List (List ℕ × ℕ)
+registers =
+    special_registers ++ temporary_registers ++ saved_registers ++ argument_registers ++ low_registers ++ high_registers
+
 -- the number of a register
 unfoldable pub register_of : List ℕ → Option ℕ
-register_of name =
-    option_or (named special_registers name) (option_or (named temporary_registers name) (option_or (named saved_registers name) (option_or (named argument_registers name) (option_or (named low_registers name) (named high_registers name)))))
+register_of name = look_up registers name
 
 -- a register, with blanks before it
 unfoldable pub register_at : List ℕ → Option (ℕ × List ℕ)

@@ -2,11 +2,11 @@
 use Rattle.std.specs.Prelude.{ℕ, ◌+◌, ◌==◌, Bool, ◌||◌, ◌&&◌, if◌then◌else◌, List, [], ◌∷◌, take, Option, Some, None, codes}
 use Rattle.std.specs.List.{starts_with}
 use Rattle.std.specs.Str.{is_utf8}
-use Rattle.rv_asm.specs.declared.statement.Line.{Line}
-use Rattle.rv_asm.specs.declared.statement.Statement.{Statement}
-use Rattle.rv_asm.specs.declared.statement.Statement.TheVariants.{Nothing}
+use Rattle.rv_asm.specs.declared.line.statement.Line.{Line}
+use Rattle.rv_asm.specs.declared.line.statement.Statement.{Statement}
+use Rattle.rv_asm.specs.declared.line.statement.Statement.TheVariants.{Nothing}
+use Rattle.coco_base.specs.Texts.{is_blank}
 use Rattle.rv_asm.specs.Readings.{◌>>=◌, items_at}
-use Rattle.rv_asm.specs.WordFile.{is_blank}
 use Rattle.rv_asm.specs.Tokens.{ends, mark_at, name_at, word_at}
 use Rattle.rv_asm.specs.Mnemonics.{form_of}
 use Rattle.rv_asm.specs.Statements.{statement_at}

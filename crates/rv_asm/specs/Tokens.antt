@@ -2,7 +2,7 @@
 use Rattle.std.specs.Prelude.{ℕ, ◌==◌, nat_le, Bool, false, not, ◌||◌, ◌&&◌, if◌then◌else◌, List, [], ◌∷◌, length, take, drop, Option, Some, None, codes}
 use Rattle.std.specs.List.{prefix_len}
 use Rattle.std.specs.Str.{bytes_eq}
-use Rattle.rv_asm.specs.WordFile.{is_blank}
+use Rattle.coco_base.specs.Texts.{is_blank}
 use Rattle.rv_asm.specs.Readings.{◌>>=◌}
 
 -- the bytes from the first that is neither a space nor a tab
@@ -18,7 +18,8 @@ is_digit byte = is_within 48 57 byte
 
 -- a letter, a digit, `_`, `.` or `$`
 abbrev pub is_name_byte : ℕ → Bool
-is_name_byte byte = is_within 97 122 byte || is_within 65 90 byte || is_digit byte || byte == 95 || byte == 46 || byte == 36
+is_name_byte byte =
+    is_within 97 122 byte || is_within 65 90 byte || is_digit byte || byte == 95 || byte == 46 || byte == 36
 
 abbrev pub after_byte : ℕ → List ℕ → Option (List ℕ)
 after_byte byte [] = None

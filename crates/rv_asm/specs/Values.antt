@@ -2,15 +2,15 @@
 use Rattle.std.specs.Prelude.{ℕ, ◌+◌, ◌/◌, ◌%◌, ◌^◌, ℤ, pos, ◌+ℤ◌, ◌-ℤ◌, unsigned_abs, Bool, true, false, List, [], ◌∷◌, Option, Some, None, is_some, Result, Ok, Err}
 use Rattle.std.specs.Int.{int_rem_euclid}
 use Rattle.rv_isa.specs.Fields.{sign_extension}
-use Rattle.rv_asm.specs.declared.cause.Cause.{Cause}
-use Rattle.rv_asm.specs.declared.cause.Cause.TheVariants.{UnknownName, Range}
-use Rattle.rv_asm.specs.declared.names.Meaning.{Meaning}
-use Rattle.rv_asm.specs.declared.expression.Half.{Half}
-use Rattle.rv_asm.specs.declared.expression.Half.TheVariants.{High, Low}
-use Rattle.rv_asm.specs.declared.expression.Term.{Term}
-use Rattle.rv_asm.specs.declared.expression.Term.TheVariants.{Number, Name, Here}
-use Rattle.rv_asm.specs.declared.expression.Sum.{Sum}
-use Rattle.rv_asm.specs.declared.expression.Expr.{Expr}
+use Rattle.rv_asm.specs.declared.layout.cause.Cause.{Cause}
+use Rattle.rv_asm.specs.declared.layout.cause.Cause.TheVariants.{UnknownName, Range}
+use Rattle.rv_asm.specs.declared.layout.names.Meaning.{Meaning}
+use Rattle.rv_asm.specs.declared.line.expression.Half.{Half}
+use Rattle.rv_asm.specs.declared.line.expression.Half.TheVariants.{High, Low}
+use Rattle.rv_asm.specs.declared.line.expression.Term.{Term}
+use Rattle.rv_asm.specs.declared.line.expression.Term.TheVariants.{Number, Name, Here}
+use Rattle.rv_asm.specs.declared.line.expression.Sum.{Sum}
+use Rattle.rv_asm.specs.declared.line.expression.Expr.{Expr}
 use Rattle.rv_asm.specs.Causes.{◌>>=◌}
 use Rattle.rv_asm.specs.Names.{meaning_of, Table}
 

@@ -4,16 +4,14 @@ use Rattle.std.specs.List.{All, list_all, starts_with}
 use Rattle.std.specs.Int.{w32, from_be_bytes}
 use Rattle.hex.specs.Hex.{decode_sized}
 use Rattle.hex.specs.declared.error.FromHexError.{FromHexError}
-use Rattle.rv_asm.specs.declared.words.WordLine.{WordLine}
-use Rattle.rv_asm.specs.declared.words.WordLine.TheVariants.{Nothing, Word, Other}
+use Rattle.rv_asm.specs.declared.image.word_file.WordLine.{WordLine}
+use Rattle.rv_asm.specs.declared.image.word_file.WordLine.TheVariants.{Nothing, Word, Other}
 use Rattle.rv_asm.specs.declared.image.Image.{Image}
 use Rattle.rv_asm.specs.declared.fault.AsmFault.{AsmFault}
 use Rattle.rv_asm.specs.declared.fault.AsmFault.TheVariants.{BadLine, Range, UnknownName, Twice, Memory}
 use Rattle.rv_asm.specs.Lines.{number_after}
-
--- a space or a tab
-abbrev pub is_blank : ℕ → Bool
-is_blank byte = byte == 32 || byte == 9
+use Rattle.coco_base.specs.Texts.{is_blank}
+use Rattle.rv_asm.specs.Regions.{most_cells}
 
 -- spaces and tabs alone, or `#` and anything after it
 abbrev pub has_nothing : List ℕ → Bool
@@ -51,14 +49,10 @@ abbrev pub IsRight : WordLine → Type 0
 IsRight Other = ⊥
 IsRight _ = Unit {0}
 
--- the most words that an image of a program has
-abbrev pub most_words : ℕ
-most_words = 4096
-
 -- each line is right, and there is room for the words
 pub record AreRight (ls : List (List ℕ)) : Type 0 where
   pub forms : All (λ line. IsRight (word_line line)) ls
-  pub room : length (words_of ls) ≤ most_words
+  pub room : length (words_of ls) ≤ most_cells
 
 -- an image of the words of lines that are right
 pub record HasWords (ls : List (List ℕ)) (image : Image) : Type 0 where
@@ -83,7 +77,7 @@ IsOther before line = word_line line ≡ Other
 
 -- the line of one word too many
 abbrev pub IsTooMany : List (List ℕ) → List ℕ → Type 0
-IsTooMany before line = (length (words_of before) ≡ most_words) × (length (words_on line) ≡ 1)
+IsTooMany before line = (length (words_of before) ≡ most_cells) × (length (words_on line) ≡ 1)
 
 -- which fault a file of words has
 abbrev pub IsWordFault : List (List ℕ) → AsmFault → Type 0
@@ -101,12 +95,12 @@ pub record TakesLine (old new : Image) (line : List ℕ) (number : ℕ) : Type 0
   pub text : new.text ≡ old.text ++ words_on line
   pub lines : new.lines ≡ old.lines ++ map (λ _. number) (words_on line)
   pub values : new.values ≡ old.values
-  pub room : length old.text ≤ most_words → length new.text ≤ most_words
+  pub room : length old.text ≤ most_cells → length new.text ≤ most_cells
 
 -- the fault of one line after an image
 abbrev pub IsLineFault : Image → List ℕ → ℕ → AsmFault → Type 0
 IsLineFault image line number (BadLine n) = (n ≡ number) × (word_line line ≡ Other)
-IsLineFault image line number (Range n) = (n ≡ number) × (most_words ≤ length image.text) × (length (words_on line) ≡ 1)
+IsLineFault image line number (Range n) = (n ≡ number) × (most_cells ≤ length image.text) × (length (words_on line) ≡ 1)
 IsLineFault image line number (UnknownName n) = ⊥
 IsLineFault image line number (Twice n) = ⊥
 IsLineFault image line number Memory = Unit {0}

@@ -1,5 +1,8 @@
 ghost use Rattle.std.specs.Prelude.{◌≡◌, ◌+◌, ◌≤◌, [], ◌∷◌, ◌++◌, length, OnOk};
 
+pub(crate) mod assembler;
+pub(crate) mod word_file;
+
 use coco_base::{List, NoMemory};
 use std::alloc::Global;
 
@@ -13,7 +16,7 @@ pub struct Image {
 }
 
 impl Image {
-    /// The image without words.
+    // The image without words.
     pub(crate) fn empty(alloc: Global) -> Image
         ensures text { result.text ≡ [] }
         ensures values { result.values ≡ [] }
@@ -26,7 +29,7 @@ impl Image {
         }
     }
 
-    /// Adds a word to the text.
+    // Adds a word to the text.
     pub(crate) fn push(&mut self, word: u32, line: u32) -> Result<(), NoMemory>
         ensures text { OnOk result (self.new.text ≡ self.old.text ++ word ∷ []) }
         ensures values { self.new.values ≡ self.old.values }

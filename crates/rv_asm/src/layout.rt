@@ -2,33 +2,39 @@
 ghost use Rattle.std.specs.Prelude.{◌≡◌, length, take, IfErr, IfOk, Ok, OnErr, OnOk};
 ghost use Rattle.std.specs.Str.Lines.{lines};
 ghost use Rattle.rv_asm.specs.Causes.{Answers, Fails};
-ghost use Rattle.rv_asm.specs.Layouts.{equal_meaning, equal_named, is_misplaced, is_misplaced_value, statement_taken, with_labels};
+ghost use Rattle.rv_asm.specs.Layouts.{effect_of, equal_meaning, equal_named, is_misplaced, is_misplaced_value, statement_effect, with_labels};
 ghost use Rattle.rv_asm.specs.Programs.{after_line, IsCutBy, start};
 
-use crate::cause::Cause;
-use crate::content::{Content, put};
-use crate::demands::is_stored;
-use crate::expression::Expr;
+pub(crate) mod cause;
+pub(crate) mod content;
+pub(crate) mod demands;
+pub(crate) mod names;
+pub(crate) mod place;
+pub(crate) mod values;
+
 use crate::fault::AsmFault;
-use crate::lines::next_line;
-use crate::names::{Meaning, Names};
-use crate::place::Place;
-use crate::source_line::line_of;
-use crate::statement::{Demand, Line, Part, Size, Statement};
-use crate::values::{is_known, value_of};
-use coco_base::{List, NoMemory};
+use crate::layout::cause::Cause;
+use crate::layout::content::{Content, put};
+use crate::layout::demands::is_stored;
+use crate::layout::names::{Meaning, Names};
+use crate::layout::place::Place;
+use crate::layout::values::{is_known, value_of};
+use crate::line::expression::Expr;
+use crate::line::source_line::line_of;
+use crate::line::statement::{Demand, Line, Part, Size, Statement};
+use coco_base::{List, NoMemory, next_line};
 use std::alloc::Global;
 
-/// What a line puts at a place.
+// What a line puts at a place.
 #[derive(Debug, Drop)]
 pub(crate) struct Placed {
     pub(crate) place: Place,
     pub(crate) content: Content,
-    /// The number of the line.
+    // The number of the line.
     pub(crate) line: u32,
 }
 
-/// What lines do: the place behind them, the names that they define, and what they put.
+// What lines do: the place behind them, the names that they define, and what they put.
 #[derive(Drop)]
 pub(crate) struct Layout {
     pub(crate) place: Place,
@@ -36,15 +42,15 @@ pub(crate) struct Layout {
     pub(crate) placed: List<Placed>,
 }
 
-/// The layout of the lines before the first that is at fault by what it and the lines before it hold, and its fault; or
-/// of all lines.
+// The layout of the lines before the first that is at fault by what it and the lines before it hold, and its fault; or
+// of all lines.
 #[derive(Drop)]
 pub(crate) struct Cut {
     pub(crate) layout: Layout,
     pub(crate) fault: Option<AsmFault>,
 }
 
-/// What `.equ` gives a name.
+// What `.equ` gives a name.
 fn equal_meaning(names: &Names, here: i64, name: &[u8], value: &Expr) -> Result<Meaning, Cause>
     ensures { Answers (λ m. m) result (equal_meaning names.now here name.now value.now) }
 {
@@ -65,7 +71,7 @@ fn equal_meaning(names: &Names, here: i64, name: &[u8], value: &Expr) -> Result<
     }
 }
 
-/// Defines labels as the address.
+// Defines labels as the address.
 fn add_labels(alloc: Global, names: &mut Names, here: i64, labels: &[List<u8>]) -> Result<(), Cause>
     ensures ok { OnOk result (with_labels names.old here labels.now ≡ Ok names.new) }
     ensures fault { IfErr result (λ e. Fails e (with_labels names.old here labels.now)) }
@@ -95,7 +101,7 @@ fn is_misplaced_value(part: Part, demand: Demand) -> bool
     }
 }
 
-/// Whether a statement may not stand in a part.
+// Whether a statement may not stand in a part.
 fn is_misplaced(part: Part, statement: &Statement) -> bool
     ensures { result ≡ is_misplaced part statement.now }
 {
@@ -106,7 +112,7 @@ fn is_misplaced(part: Part, statement: &Statement) -> bool
     }
 }
 
-/// Defines a name as `.equ` does.
+// Defines a name as `.equ` does.
 #[tactic(auto, unfolding(crate::specs::Layouts::equal_named))]
 fn take_equal(
     alloc: Global,
@@ -124,22 +130,23 @@ fn take_equal(
     Ok(())
 }
 
-/// What a statement does at a place.
-#[tactic(auto, unfolding(crate::specs::Layouts::equal_taken, crate::specs::Layouts::content_taken))]
+// What a statement does at a place.
+#[tactic(auto, unfolding(crate::specs::Layouts::equal_effect, crate::specs::Layouts::content_effect))]
 fn take_statement(
     alloc: Global,
     place: &mut Place,
     names: &mut Names,
     statement: Statement,
 ) -> Result<Option<Content>, Cause>
-    ensures ok { IfOk result (λ content. statement_taken place.old names.old statement ≡ Ok (record { place = place.new; names = names.new; content = content })) }
-    ensures fault { IfErr result (λ e. Fails e (statement_taken place.old names.old statement)) }
+    ensures ok { IfOk result
+        (λ content. statement_effect place.old names.old statement ≡ Ok (effect_of place.new names.new content)) }
+    ensures fault { IfErr result (λ e. Fails e (statement_effect place.old names.old statement)) }
     ensures kept { take (length names.old) names.new ≡ names.old }
 {
     match statement {
         Statement::Nothing => Ok(None),
         Statement::Enter(part) => {
-            *place = place.entered(part);
+            *place = place.in_part(part);
             Ok(None)
         }
         Statement::Equal { name, value } => {
@@ -154,8 +161,8 @@ fn take_statement(
     }
 }
 
-/// What a line does after a layout.
-#[tactic(auto, unfolding(crate::specs::Layouts::line_taken, crate::specs::Layouts::parts_taken, crate::specs::Programs::after_line))]
+// What a line does after a layout.
+#[tactic(auto, unfolding(crate::specs::Layouts::line_effect, crate::specs::Layouts::parts_effect, crate::specs::Programs::after_line))]
 fn take_line(alloc: Global, layout: &mut Layout, line: &[u8], number: u32) -> Result<(), Cause>
     ensures ok { OnOk result (after_line layout.old number line.now ≡ Ok layout.new) }
     ensures fault { IfErr result (λ e. Fails e (after_line layout.old number line.now)) }
@@ -179,7 +186,7 @@ fn take_line(alloc: Global, layout: &mut Layout, line: &[u8], number: u32) -> Re
     Ok(())
 }
 
-/// The same, where a fault leaves the layout as it was.
+// The same, where a fault leaves the layout as it was.
 fn try_line(alloc: Global, layout: &mut Layout, line: &[u8], number: u32) -> Result<(), Cause>
     ensures ok { OnOk result (after_line layout.old number line.now ≡ Ok layout.new) }
     ensures fault { IfErr result (λ e. Fails e (after_line layout.old number line.now)) }
@@ -197,7 +204,7 @@ fn try_line(alloc: Global, layout: &mut Layout, line: &[u8], number: u32) -> Res
     }
 }
 
-/// The layout before the first line.
+// The layout before the first line.
 fn start(alloc: Global) -> Layout
     ensures { result ≡ start }
 {
@@ -212,7 +219,7 @@ fn start(alloc: Global) -> Layout
     }
 }
 
-/// The layout of a program.
+// The layout of a program.
 pub(crate) fn lay_out(alloc: Global, bytes: &[u8]) -> Result<Cut, NoMemory>
     ensures { IfOk result (λ cut. IsCutBy (lines bytes.now) cut.layout cut.fault) }
 {

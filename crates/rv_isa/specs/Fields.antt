@@ -1,5 +1,6 @@
 -- Fields of bits, and the words of the six formats as sums of their fields.
--- RISC-V Unprivileged ISA, "RV32I Base Integer Instruction Set": "Base Instruction Formats" and "Immediate Encoding Variants".
+-- RISC-V Unprivileged ISA, "RV32I Base Integer Instruction Set": "Base Instruction Formats" and "Immediate Encoding
+-- Variants".
 use Rattle.std.specs.Prelude.{ℕ, ◌+◌, ◌-◌, ◌*◌, ◌/◌, ◌%◌, ◌^◌, ℤ, pos, ◌-ℤ◌, nat_lt, if◌then◌else◌}
 use Rattle.std.specs.Int.{w32, cast_unsigned}
 
@@ -60,8 +61,13 @@ s_imm word = sign_extension (bits word 31 25 * 2 ^ 5 + bits word 11 7) (2 ^ 11)
 
 -- imm[12] in bit 31, imm[11] in bit 7, imm[10:5] in bits 30 to 25, imm[4:1] in bits 11 to 8
 abbrev pub b_imm : ℕ → ℤ
-b_imm word = sign_extension (bits word 31 31 * 2 ^ 12 + bits word 7 7 * 2 ^ 11 + bits word 30 25 * 2 ^ 5 + bits word 11 8 * 2) (2 ^ 12)
+b_imm word =
+    sign_extension (bits word 31 31 * 2 ^ 12 + bits word 7 7 * 2 ^ 11 + bits word 30 25 * 2 ^ 5 + bits word 11 8 * 2)
+    (2 ^ 12)
 
 -- imm[20] in bit 31, imm[19:12] in bits 19 to 12, imm[11] in bit 20, imm[10:1] in bits 30 to 21
 abbrev pub j_imm : ℕ → ℤ
-j_imm word = sign_extension (bits word 31 31 * 2 ^ 20 + bits word 19 12 * 2 ^ 12 + bits word 20 20 * 2 ^ 11 + bits word 30 21 * 2) (2 ^ 20)
+j_imm word =
+    sign_extension
+    (bits word 31 31 * 2 ^ 20 + bits word 19 12 * 2 ^ 12 + bits word 20 20 * 2 ^ 11 + bits word 30 21 * 2)
+    (2 ^ 20)

@@ -1,6 +1,7 @@
 -- What an instruction asks of the memory, and the state after it.
--- RISC-V Unprivileged ISA, "RV32I Base Integer Instruction Set": "Programmers' Model", "Integer Computational Instructions",
--- "Control Transfer Instructions", "Load and Store Instructions", "Memory Ordering Instructions", "Environment Call and Breakpoints".
+-- RISC-V Unprivileged ISA, "RV32I Base Integer Instruction Set": "Programmers' Model", "Integer Computational
+-- Instructions", "Control Transfer Instructions", "Load and Store Instructions", "Memory Ordering Instructions",
+-- "Environment Call and Breakpoints".
 use Rattle.std.specs.Prelude.{ℕ, zero, suc, ◌+◌, ◌-◌, ◌*◌, ◌/◌, ◌%◌, ◌^◌, ℤ, Bool, not, List, slice_index, slice_set, nat_lt, ◌==◌, int_lt, if◌then◌else◌, bit_and, bit_or, bit_xor}
 use Rattle.std.specs.Int.{w32, cast_unsigned, cast_signed, int_shr}
 use Rattle.rv_isa.specs.declared.instruction.Instr.{Instr}
@@ -46,8 +47,8 @@ signed_value a = cast_signed w32 a
 
 -- ---- operations ("Integer Computational Instructions")
 
--- what an operation gives on two registers' values: a shift takes the low five bits of the second, and `sra` divides the
--- signed value by a power of two, rounded down
+-- what an operation gives on two registers' values: a shift takes the low five bits of the second, and `sra` divides
+-- the signed value by a power of two, rounded down
 abbrev pub reg_value : RegOp → ℕ → ℕ → ℕ
 reg_value Add a b = (a + b) % 2 ^ 32
 reg_value Sub a b = (a + (2 ^ 32 - b)) % 2 ^ 32
@@ -107,6 +108,10 @@ is_taken Bge a b = not (int_lt (signed_value a) (signed_value b))
 is_taken Bltu a b = nat_lt a b
 is_taken Bgeu a b = not (nat_lt a b)
 
+-- where a branch goes at these values of its registers
+abbrev pub branch_target : BranchOp → ℕ → ℕ → ℕ → ℤ → ℕ
+branch_target op a b pc offset = if is_taken op a b then plus_imm pc offset else next_pc pc
+
 -- where `jalr` goes: the lowest bit of the sum is cleared
 abbrev pub jalr_target : ℕ → ℤ → ℕ
 jalr_target a imm = plus_imm a imm / 2 * 2
@@ -134,11 +139,12 @@ state_at state pc = record { pc = pc; x = state.x }
 
 -- the state after an instruction, where a load has found `loaded`
 abbrev pub next_state : IsaState → Instr → ℕ → IsaState
-next_state state (Reg op rd rs1 rs2) loaded = state_with_value state rd (reg_value op (register state rs1) (register state rs2))
+next_state state (Reg op rd rs1 rs2) loaded =
+    state_with_value state rd (reg_value op (register state rs1) (register state rs2))
 next_state state (Imm op rd rs1 imm) loaded = state_with_value state rd (imm_value op (register state rs1) imm)
 next_state state (Load op rd rs1 imm) loaded = state_with_value state rd (load_value op loaded)
 next_state state (Branch op rs1 rs2 offset) loaded =
-    state_at state (if is_taken op (register state rs1) (register state rs2) then plus_imm state.pc offset else next_pc state.pc)
+    state_at state (branch_target op (register state rs1) (register state rs2) state.pc offset)
 next_state state (Lui rd imm) loaded = state_with_value state rd (imm * 2 ^ 12)
 next_state state (Auipc rd imm) loaded = state_with_value state rd ((state.pc + imm * 2 ^ 12) % 2 ^ 32)
 next_state state (Jal rd offset) loaded = state_after_jump state rd (plus_imm state.pc offset)

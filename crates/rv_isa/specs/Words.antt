@@ -1,5 +1,6 @@
 -- Which instructions there are, and their words.
--- RISC-V Unprivileged ISA, "RV32I Base Integer Instruction Set", and its table of opcodes in "RV32/64G Instruction Set Listings".
+-- RISC-V Unprivileged ISA, "RV32I Base Integer Instruction Set", and its table of opcodes in "RV32/64G Instruction Set
+-- Listings".
 use Rattle.std.specs.Prelude.{◌≡◌, ℕ, ◌+◌, ◌*◌, ◌^◌, ◌<◌, ◌%◌, ℤ, pos, neg_ℤ, ◌≤ℤ◌, unsigned_abs, Option, Some, None, IfSome}
 use Rattle.rv_isa.specs.declared.instruction.Instr.{Instr}
 use Rattle.rv_isa.specs.declared.instruction.Instr.TheVariants.{Reg, Imm, Load, Store, Branch, Lui, Auipc, Jal, Jalr, Fence, Ecall, Ebreak}
@@ -111,7 +112,8 @@ Fits Ebreak = Unit {0}
 
 -- ---- words
 
--- bits 31 to 20 of an operation with this funct7: it stands above a shift amount, and else the immediate fills the field
+-- bits 31 to 20 of an operation with this funct7: it stands above a shift amount, and else the immediate fills the
+-- field
 abbrev pub operand_field : Option ℕ → ℤ → ℕ
 operand_field (Some funct7) imm = funct7 * 2 ^ 5 + imm_bits imm 4 0
 operand_field None imm = imm_bits imm 11 0

@@ -78,7 +78,7 @@ impl ImmOp {
         }
     }
 
-    /// Of a shift, the high seven bits of its immediate field.
+    // Of a shift, the high seven bits of its immediate field.
     pub(crate) fn shift_funct7(self) -> Option<u32>
         ensures value { result ≡ shift_funct7 self }
         ensures bound { IfSome result (λ funct7. funct7 < 128) }
@@ -90,7 +90,7 @@ impl ImmOp {
         }
     }
 
-    /// Bits 31 to 20 of the word.
+    // Bits 31 to 20 of the word.
     pub(crate) fn operand_field(self, imm: i32) -> u32
         ensures value { result ≡ operand_field (shift_funct7 self) imm }
         ensures bound { result < 2 ^ 12 }

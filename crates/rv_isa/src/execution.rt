@@ -122,7 +122,7 @@ fn plus_imm(from: u32, imm: i32) -> u32
     from.wrapping_add(imm.cast_unsigned())
 }
 
-/// The target of `jalr`, with the lowest bit cleared.
+// The target of `jalr`, with the lowest bit cleared.
 fn jalr_target(from: u32, imm: i32) -> u32
     ensures { result ≡ jalr_target from imm }
 {

@@ -2,7 +2,7 @@
 ghost use Rattle.std.specs.Prelude.{◌≡◌, ◌+◌, ◌-◌, ◌*◌, ◌<◌, ◌≤◌, ◌^◌};
 ghost use Rattle.rv_isa.specs.Fields.{b_word, bits, i_word, imm_bits, j_word, r_word, s_word, sign_extension, u_word};
 
-/// Bits `high` to `low` of a word, as a number.
+// Bits `high` to `low` of a word, as a number.
 pub(crate) fn bits(word: u32, high: u32, low: u32) -> u32
     requires order { low ≤ high }
     requires part { high < low + 31 }
@@ -12,7 +12,7 @@ pub(crate) fn bits(word: u32, high: u32, low: u32) -> u32
     (word >> low) % (1 << (high + 1 - low))
 }
 
-/// Bits `high` to `low` of an immediate, in two's complement of 32 bits.
+// Bits `high` to `low` of an immediate, in two's complement of 32 bits.
 pub(crate) fn imm_bits(imm: i32, high: u32, low: u32) -> u32
     requires order { low ≤ high }
     requires part { high < low + 31 }
@@ -22,7 +22,7 @@ pub(crate) fn imm_bits(imm: i32, high: u32, low: u32) -> u32
     bits(imm.cast_unsigned(), high, low)
 }
 
-/// The number that a field holds in two's complement, where `sign` is the worth of its highest bit.
+// The number that a field holds in two's complement, where `sign` is the worth of its highest bit.
 pub(crate) fn sign_extension(field: u32, sign: u32) -> i32
     requires sign { sign ≤ 2 ^ 20 }
     requires field { field < 2 * sign }
@@ -35,7 +35,7 @@ pub(crate) fn sign_extension(field: u32, sign: u32) -> i32
     }
 }
 
-/// The word of format R.
+// The word of format R.
 pub(crate) fn r_word(opcode: u32, rd: u8, funct3: u32, rs1: u8, rs2: u8, funct7: u32) -> u32
     requires opcode { opcode < 2 ^ 7 }
     requires rd { rd < 32 }
@@ -53,7 +53,7 @@ pub(crate) fn r_word(opcode: u32, rd: u8, funct3: u32, rs1: u8, rs2: u8, funct7:
         + opcode
 }
 
-/// The word of format I, whose bits 31 to 20 are `upper`.
+// The word of format I, whose bits 31 to 20 are `upper`.
 pub(crate) fn i_word(opcode: u32, rd: u8, funct3: u32, rs1: u8, upper: u32) -> u32
     requires opcode { opcode < 2 ^ 7 }
     requires rd { rd < 32 }
@@ -65,7 +65,7 @@ pub(crate) fn i_word(opcode: u32, rd: u8, funct3: u32, rs1: u8, upper: u32) -> u
     (upper << 20) + (u32::from(rs1) << 15) + (funct3 << 12) + (u32::from(rd) << 7) + opcode
 }
 
-/// The word of format S.
+// The word of format S.
 pub(crate) fn s_word(opcode: u32, funct3: u32, rs1: u8, rs2: u8, imm: i32) -> u32
     requires opcode { opcode < 2 ^ 7 }
     requires funct3 { funct3 < 2 ^ 3 }
@@ -81,7 +81,7 @@ pub(crate) fn s_word(opcode: u32, funct3: u32, rs1: u8, rs2: u8, imm: i32) -> u3
         + opcode
 }
 
-/// The word of format B.
+// The word of format B.
 pub(crate) fn b_word(opcode: u32, funct3: u32, rs1: u8, rs2: u8, imm: i32) -> u32
     requires opcode { opcode < 2 ^ 7 }
     requires funct3 { funct3 < 2 ^ 3 }
@@ -99,7 +99,7 @@ pub(crate) fn b_word(opcode: u32, funct3: u32, rs1: u8, rs2: u8, imm: i32) -> u3
         + opcode
 }
 
-/// The word of format U, whose bits 31 to 12 are `field`.
+// The word of format U, whose bits 31 to 12 are `field`.
 pub(crate) fn u_word(opcode: u32, rd: u8, field: u32) -> u32
     requires opcode { opcode < 2 ^ 7 }
     requires rd { rd < 32 }
@@ -109,7 +109,7 @@ pub(crate) fn u_word(opcode: u32, rd: u8, field: u32) -> u32
     (field << 12) + (u32::from(rd) << 7) + opcode
 }
 
-/// The word of format J.
+// The word of format J.
 pub(crate) fn j_word(opcode: u32, rd: u8, imm: i32) -> u32
     requires opcode { opcode < 2 ^ 7 }
     requires rd { rd < 32 }

@@ -9,6 +9,7 @@ mod decoding;
 mod encoding;
 mod execution;
 mod fields;
+mod functions;
 mod instruction;
 
 pub use decoding::decode;

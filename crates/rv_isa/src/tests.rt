@@ -48,7 +48,7 @@ fn jalr(rd: u8, rs1: u8, imm: i32) -> Instr {
     Instr::Jalr { rd, rs1, imm }
 }
 
-/// The state before each row: pc 100, x1 with all bits set, x2 with the lowest.
+// The state before each row: pc 100, x1 with all bits set, x2 with the lowest.
 fn before() -> IsaState
     ensures { slice_index result.x 0 ≡ 0 }
 {
@@ -58,7 +58,7 @@ fn before() -> IsaState
     IsaState { pc: 100, x }
 }
 
-/// The pc after an instruction, and what a register holds then.
+// The pc after an instruction, and what a register holds then.
 fn after(rt: &impl Abort, instr: Instr, loaded: u32, register: u8) -> (u32, u32) {
     assert!(rt; fits(instr) && register < 32);
     let state = step(&before(), instr, loaded);
@@ -205,8 +205,8 @@ fn refuses_what_has_no_word(rt: HostRuntime) {
     }
 }
 
-/// Of the words with these registers, one for each opcode, funct3 and funct7, how many have an instruction. Each of
-/// those instructions has the word that it came from.
+// Of the words with these registers, one for each opcode, funct3 and funct7, how many have an instruction. Each of
+// those instructions has the word that it came from.
 fn count_decoded(rt: &impl Abort, rd: u32, rs1: u32, rs2: u32) -> u32
     requires rd { rd < 32 }
     requires rs1 { rs1 < 32 }

@@ -1,6 +1,0 @@
-use Rattle.std.proofs.Common.{◌≡◌, ◌++◌, take}
-use Rattle.rv_asm.specs.Programs.{stored_bytes}
-use Rattle.rv_asm.proofs.assembler.put_data.Given as goal
-
-abbrev pub invariant-words : goal.invariant-words
-invariant-words l = l.bytes ≡ l.fn.bytes ++ stored_bytes l.count (take l.word-index l.words)
