@@ -1,4 +1,5 @@
 pub mod Signs
+pub mod Arenas
 pub mod Assignments
 pub mod Resolvents
 pub mod Derivations

@@ -1,29 +1,33 @@
-ghost use Rattle.std.specs.Prelude.{◌≡◌, ℕ, ◌<◌, ◌≤◌, ◌^◌, List, [], ◌∷◌, ◌++◌, length, slice_get, All, IfOk, OnOk, OnErr};
+ghost use Rattle.std.specs.Prelude.{◌≡◌, ℕ, ◌+◌, ◌<◌, ◌≤◌, ◌^◌, List, [], ◌∷◌, ◌++◌, length, take, slice_get, slice_range, All, IfOk, OnOk, OnErr};
+ghost use Rattle.std.specs.List.{flat_map};
 ghost use Rattle.clause_store.specs.Signs.{Ascends};
 
 use crate::lit::Lit;
-use coco_base::{List, NoMemory};
+use coco_base::NoMemory;
 use std::alloc::Global;
 use std::marker::Model;
 
 /// Clauses by number, from 0 in the order in which they came. Contracts see the list of its clauses, each a list of
 /// literals whose variables ascend strictly.
+///
+/// All literals stand in one list, the arena, clause after clause; beside it stands where each clause ends.
 #[derive(Debug, Drop)]
 pub struct Store {
-    alloc: Global,
-    clauses: List<List<Lit>>,
+    lits: Vec<Lit>,
+    ends: Vec<usize>,
 }
 
 impl Model for Store {
     ghost use Rattle.std.specs.Prelude.{ℕ, ◌≤◌, ◌^◌, List, length, All};
     ghost use Rattle.clause_store.specs.declared.lit.Lit.{Lit};
     ghost use Rattle.clause_store.specs.Signs.{Ascends};
+    ghost use Rattle.clause_store.specs.Arenas.{pieces, IsArena};
 
     ghost Value = { List (List Lit) };
 
-    ghost view = { λ s. s.clauses };
+    ghost view = { λ s. pieces s.lits.items 0 s.ends.items };
 
-    ghost invariant = { λ s. (length s.clauses ≤ 2 ^ 31) × All Ascends s.clauses };
+    ghost invariant = { λ s. IsArena s.lits.items s.ends.items };
 }
 
 impl Store {
@@ -32,8 +36,8 @@ impl Store {
         ensures { result ≡ [] }
     {
         Store {
-            alloc,
-            clauses: List::new(alloc),
+            lits: Vec::new(alloc),
+            ends: Vec::new(alloc),
         }
     }
 
@@ -45,9 +49,10 @@ impl Store {
         ensures ok { OnOk result (self.new ≡ self.old ++ lits.now ∷ []) }
         ensures err { OnErr result (self.new ≡ self.old) }
     {
-        let id = self.clauses.len() as u32;
-        let clause = List::from_vec(Vec::from_slice(self.alloc, lits)?);
-        self.clauses.push(clause)?;
+        let id = self.ends.len() as u32;
+        self.ends.reserve(1)?;
+        self.lits.extend_from_slice(lits)?;
+        self.ends.push(self.lits.len())?;
         Ok(id)
     }
 
@@ -57,7 +62,9 @@ impl Store {
         ensures clause { slice_get self.now id ≡ Some result.now }
         ensures ascending { Ascends result.now }
     {
-        self.clauses.as_slice()[id as usize].as_slice()
+        let start = self.place(id as usize);
+        let end = self.place(id as usize + 1);
+        between(self.arena(), start, end)
     }
 
     /// How many clauses there are; the numbers below it are theirs. It takes no memory.
@@ -66,6 +73,42 @@ impl Store {
         ensures bound { result ≤ 2 ^ 31 }
         ensures ascending { All Ascends self.now }
     {
-        self.clauses.len() as u32
+        self.ends.len() as u32
     }
+
+    /// The literals of all clauses, one clause after the other in order of number. It takes no memory.
+    pub fn arena(&self) -> &[Lit]
+        ensures lits { result.now ≡ flat_map (λ clause. clause) self.now }
+        ensures ascending { All Ascends self.now }
+    {
+        self.lits.as_slice()
+    }
+
+    /// The place in the arena of a clause's first literal. It takes no memory.
+    pub fn start(&self, id: u32) -> u64
+        requires { id < length self.now }
+        ensures { result ≡ length (flat_map (λ clause. clause) (take id self.now)) }
+    {
+        self.place(id as usize) as u64
+    }
+
+    /// The place where a clause starts, and where the last one ends.
+    fn place(&self, id: usize) -> usize
+        requires { id ≤ length self.now }
+        ensures { result ≡ length (flat_map (λ clause. clause) (take id self.now)) }
+    {
+        if id == 0 {
+            return 0;
+        }
+        self.ends[id - 1]
+    }
+}
+
+/// The literals from one place to before another.
+fn between(lits: &[Lit], start: usize, end: usize) -> &[Lit]
+    requires order { start ≤ end }
+    requires within { end ≤ length lits.now }
+    ensures { result.now ≡ slice_range lits.now start end }
+{
+    &lits[start..end]
 }

@@ -3,6 +3,8 @@ use crate::lit::{Lit, is_ascending};
 use crate::named::clause_at;
 use crate::store::Store;
 use coco_base::{List, NoMemory};
+use std::alloc::Global;
+use std::process::Abort;
 
 const X: Lit = Lit {
     var: 0,
@@ -11,6 +13,11 @@ const X: Lit = Lit {
 
 const NOT_X: Lit = Lit {
     var: 0,
+    positive: false,
+};
+
+const NOT_Y: Lit = Lit {
+    var: 1,
     positive: false,
 };
 
@@ -35,6 +42,33 @@ fn keeps_what_was_pushed(rt: HostRuntime) -> Result<(), NoMemory> {
     assert_eq!(rt; count, 2);
     assert_eq!(rt; store.get(0), [X].as_slice());
     assert_eq!(rt; store.get(1), [NOT_X, Y].as_slice());
+    Ok(())
+}
+
+/// The clauses {1}, {1, -2} and {}.
+fn three_clauses(rt: &impl Abort, alloc: Global) -> Result<Store, NoMemory> {
+    let mut store = Store::new(alloc);
+    for lits in [[X].as_slice(), [X, NOT_Y].as_slice(), [].as_slice()] {
+        let clause = is_ascending(lits);
+        assert!(rt; clause);
+        let count = store.count();
+        assert!(rt; count < 2_147_483_648);
+        store.push(lits)?;
+    }
+    Ok(store)
+}
+
+#[test]
+fn clauses_stand_one_after_the_other(rt: HostRuntime) -> Result<(), NoMemory> {
+    let store = three_clauses(&rt, rt.alloc())?;
+    assert_eq!(rt; store.arena(), [X, X, NOT_Y].as_slice());
+    let count = store.count();
+    assert_eq!(rt; count, 3);
+    for (id, start) in [(0, 0), (1, 1), (2, 3)] {
+        assert!(rt; id < count);
+        assert_eq!(rt; store.start(id), start);
+    }
+    assert_eq!(rt; store.get(2).len(), 0);
     Ok(())
 }
 

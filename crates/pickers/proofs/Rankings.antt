@@ -4,7 +4,7 @@ use Rattle.std.proofs.lemmas.List.{length-replicate, get_or-replicate, get_or_pa
 use Rattle.std.proofs.lemmas.List.Quantifiers.{position-Some}
 use Rattle.std.proofs.lemmas.Option.{get_or_from_slice_get}
 use Rattle.std.proofs.lemmas.Grind.{common_steps}
-use Rattle.std.proofs.lemmas.Bool.{cases_lt}
+use Rattle.std.proofs.lemmas.Bool.{cases_eq, cases_lt}
 use Rattle.pickers.specs.Choices.{IsOpen, AllAreSet, GoesFirst, IsFirstOf, IsFound, Beats}
 use Rattle.pickers.specs.Tree.{AreLed, IsRefreshed, IsRanking, leader_of}
 use Rattle.pickers.proofs.Trees.{led_refreshed, range_refreshed, leader-leaf, leader-inner, leaf_alone}
@@ -68,28 +68,31 @@ ranking_zeros n lt =
       led = led_zeros n;
     }
 
-pub found_first : (numbers : List ℕ) (unset : List Bool) (found : Option ℕ) → is_some found ≡ true → IsFound numbers unset found → ((v : ℕ) → v < length numbers → IsOpen unset v → Beats numbers found v) → MatchOption found (AllAreSet unset) (IsFirstOf numbers unset)
+-- a variable without a number goes behind each that has one
+behind_positive : (numbers : List ℕ) (a b : ℕ) → 0 < get_or numbers a 0 → get_or numbers b 0 ≡ 0 → GoesFirst numbers a b
+behind_positive numbers a b positive none = record { number = omega arith; tie = λ lt. omega arith }
+
+pub found_first : (numbers : List ℕ) (unset : List Bool) (found : Option ℕ) → is_some found ≡ true → IsFound numbers unset found → ((v : ℕ) → v < length numbers → IsOpen unset v → 0 < get_or numbers v 0 → Beats numbers found v) → MatchOption found (AllAreSet unset) (IsFirstOf numbers unset)
 found_first numbers unset None some is_found beats = absurd (cc)
 found_first numbers unset (Some var) some is_found beats = record {
-  is_open = is_found.1;
+  is_open = is_found.is_open;
   first = λ other is_open.
-      elim (cases_lt other (length numbers)) [
-        | inl lt ↦ beats other lt is_open
-        | inr past ↦
-            let z : get_or numbers other 0 ≡ 0 = get_or_past numbers other 0 past in
-            let v : var < length numbers = is_found.0 in
-            record { number = omega arith; tie = λ lt. absurd (omega arith) }
+      elim (cases_eq (get_or numbers other 0) 0) [
+        | inl none ↦ behind_positive numbers var other is_found.positive none
+        | inr some_number ↦
+            elim (cases_lt other (length numbers)) [
+              | inl lt ↦ beats other lt is_open (omega arith)
+              | inr past ↦ let z : get_or numbers other 0 ≡ 0 = get_or_past numbers other 0 past in behind_positive numbers var other is_found.positive z
+            ]
       ];
 }
 
--- where no variable with a number is unset, the least one of the others goes first
-pub rest_first : (numbers : List ℕ) (unset : List Bool) (var : ℕ) → IsOpen unset var → position (λ b. b) unset ≡ Some var → ((v : ℕ) → v < length numbers → IsOpen unset v → ⊥) → IsFirstOf numbers unset var
+-- where no variable with a number is unset, the least one goes first
+pub rest_first : (numbers : List ℕ) (unset : List Bool) (var : ℕ) → IsOpen unset var → position (λ b. b) unset ≡ Some var → ((v : ℕ) → v < length numbers → IsOpen unset v → 0 < get_or numbers v 0 → ⊥) → IsFirstOf numbers unset var
 rest_first numbers unset var is_open least none = record {
   is_open = is_open;
   first = λ other other_open.
-      let a : length numbers ≤ var = elim (cases_lt var (length numbers)) [ inl lt ↦ absurd (none var lt is_open) | inr ge ↦ ge ] in
-      let b : length numbers ≤ other = elim (cases_lt other (length numbers)) [ inl lt ↦ absurd (none other lt other_open) | inr ge ↦ ge ] in
-      let z : get_or numbers other 0 ≡ 0 = get_or_past numbers other 0 b in
+      let z : get_or numbers other 0 ≡ 0 = no_number other other_open in
       record {
         number = omega arith;
         tie = λ lt.
@@ -98,3 +101,10 @@ rest_first numbers unset var is_open least none = record {
             absurd (cc);
       };
 }
+  where
+    no_number : (v : ℕ) → IsOpen unset v → get_or numbers v 0 ≡ 0
+    no_number v v_open =
+        elim (cases_lt v (length numbers)) [
+          | inl lt ↦ elim (cases_eq (get_or numbers v 0) 0) [ inl e ↦ e | inr some ↦ absurd (none v lt v_open (omega arith)) ]
+          | inr ge ↦ get_or_past numbers v 0 ge
+        ]

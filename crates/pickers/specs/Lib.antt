@@ -1,3 +1,4 @@
 pub mod Choices
 pub mod Bumps
+pub mod Seeds
 pub mod Tree

@@ -1,8 +1,8 @@
 -- A tree over variables, in one list: node 1 is the root, the nodes under node k are 2 * k and 2 * k + 1, and with n
 -- variables the nodes from n to 2 * n - 1 are its leaves, in the order of the variables. The list gives for each
 -- node that is no leaf its leader, which goes before all variables under the node.
-use Rattle.std.specs.Prelude.{◌≡◌, ℕ, suc, zero, ◌+◌, ◌-◌, ◌*◌, ◌/◌, ◌<◌, cond, nat_lt, ◌^◌, List, length, slice_index, slice_set, All, ◌⊎◌}
-use Rattle.pickers.specs.Choices.{GoesFirst}
+use Rattle.std.specs.Prelude.{◌≡◌, ℕ, suc, zero, ◌+◌, ◌-◌, ◌*◌, ◌/◌, ◌<◌, cond, nat_lt, ◌^◌, Bool, List, Option, length, slice_index, slice_set, All, ◌⊎◌}
+use Rattle.pickers.specs.Choices.{IsOpen, GoesFirst, Beats}
 
 -- the node some levels above a node
 abbrev pub above : ℕ → ℕ → ℕ
@@ -29,6 +29,11 @@ AreLed numbers leaders = (node : ℕ) → 0 < node → LeadsNode numbers node (l
 abbrev pub AreLedBut : List ℕ → List ℕ → ℕ → Type 0
 AreLedBut numbers leaders at =
     (node var : ℕ) → 0 < node → var < length numbers → IsUnder (length numbers + var) node → GoesFirst numbers (leader_of leaders node) var ⊎ IsUnder at node
+
+-- what was found goes before all variables under a node that are unset and have a number
+abbrev pub LeadsOpen : List ℕ → List Bool → ℕ → Option ℕ → Type 0
+LeadsOpen numbers unset node found =
+    (v : ℕ) → v < length numbers → IsUnder (length numbers + v) node → IsOpen unset v → 0 < slice_index numbers v → Beats numbers found v
 
 -- the node has a new leader, which goes before those of the two nodes under it
 pub record IsRefreshed (numbers old new : List ℕ) (node : ℕ) : Type 0 where

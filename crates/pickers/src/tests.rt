@@ -1,8 +1,10 @@
 use crate::first::FirstOpen;
 use crate::last::LastBumped;
+use crate::listed::Listed;
 use crate::most::MostBumped;
 use crate::picker::Picker;
-use coco_base::NoMemory;
+use crate::seeded::Seeded;
+use coco_base::{List, NoMemory};
 use std::process::Abort;
 
 const BUMPS: [u32; 5] = [2, 1, 2, 3, 9];
@@ -51,4 +53,29 @@ fn last_bumped_picks_by_times(rt: HostRuntime) -> Result<(), NoMemory> {
     let want = [Some(3), Some(2), Some(1), Some(3), Some(0), Some(4), None];
     assert_picks(&rt, picker, 4, want);
     Ok(())
+}
+
+#[test]
+fn listed_picks_by_its_list_and_then_the_least(rt: HostRuntime) -> Result<(), NoMemory> {
+    let alloc = rt.alloc();
+    let order = List::from_vec(Vec::from_slice(alloc, &[7, 3, 1])?);
+    let picker = Box::new(alloc, Listed::new(order))?;
+    let want = [Some(3), Some(1), Some(1), Some(3), Some(0), Some(4), None];
+    assert_picks(&rt, picker, 0, want);
+    Ok(())
+}
+
+#[test]
+fn seeded_picks_by_the_upper_bits_of_its_state(rt: HostRuntime) {
+    let mut picker = Seeded::new(0);
+    assert_eq!(rt; picker.pick(&[false, false]), None);
+    for (unset, want) in [
+        ([true, true, true], Some(1)),
+        ([true, true, true], Some(1)),
+        ([true, false, true], Some(0)),
+        ([false, false, false], None),
+        ([true, true, true], Some(0)),
+    ] {
+        assert_eq!(rt; picker.pick(&unset), want);
+    }
 }

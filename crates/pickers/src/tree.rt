@@ -1,8 +1,9 @@
 ghost use Rattle.std.specs.Prelude.{◌≡◌, ℕ, ◌+◌, ◌*◌, ◌<◌, ◌≤◌, ◌^◌, ◌↔◌, List, length, All, IsTrue, IfOk, IfSome, MatchBool, slice_set};
 ghost use Rattle.std.specs.Prelude.{replicate};
 ghost use Rattle.pickers.specs.Choices.{GoesFirst, IsOpen, Beats, IsFound};
-ghost use Rattle.pickers.specs.Tree.{leader_of, IsUnder, AreLed, AreLedBut, IsRefreshed};
+ghost use Rattle.pickers.specs.Tree.{leader_of, IsUnder, AreLed, AreLedBut, IsRefreshed, LeadsOpen};
 
+use crate::first::is_open;
 use coco_base::NoMemory;
 use std::alloc::Global;
 
@@ -79,15 +80,6 @@ pub(crate) fn climb(numbers: &[u64], leaders: &mut [u32], from: usize)
     }
 }
 
-fn is_open(unset: &[bool], var: u32) -> bool
-    ensures { IsTrue result ↔ IsOpen unset.now var }
-{
-    match unset.get(var as usize) {
-        Some(is_unset) => *is_unset,
-        None => false,
-    }
-}
-
 fn is_beaten(numbers: &[u64], found: Option<u32>, var: u32) -> bool
     requires found { IfSome found (λ v. v < length numbers.now) }
     requires var { var < length numbers.now }
@@ -99,8 +91,9 @@ fn is_beaten(numbers: &[u64], found: Option<u32>, var: u32) -> bool
     }
 }
 
-/// The variable that goes first of what was found so far and of those under a node that are unset. It leaves out each
-/// part of the tree whose leader is unset or goes behind what was found.
+/// The variable that goes first of what was found so far and of those under a node that are unset and have a number
+/// above 0. It leaves out each part of the tree whose leader is unset, or has the number 0, or goes behind what was
+/// found.
 pub(crate) fn first_under(
     numbers: &[u64],
     leaders: &[u32],
@@ -117,9 +110,12 @@ pub(crate) fn first_under(
     requires found { IsFound numbers.now unset.now found }
     ensures found { IsFound numbers.now unset.now result }
     ensures kept { (v : ℕ) → Beats numbers.now found v → Beats numbers.now result v }
-    ensures first { (v : ℕ) → v < length numbers.now → IsUnder (length numbers.now + v) node → IsOpen unset.now v → Beats numbers.now result v }
+    ensures first { LeadsOpen numbers.now unset.now node result }
 {
     let best = leader(leaders, node);
+    if numbers[best as usize] == 0 {
+        return found;
+    }
     if is_beaten(numbers, found, best) {
         return found;
     }

@@ -15,21 +15,21 @@ returns-then-is_some c =
     let e : c.args.self.now ≡ c.deref.result.now = cc in
     let some : is_some c.first_under-found.result ≡ true = cc in
     rw e (found_first c.deref.result.now c.args.unset.now c.first_under-found.result some c.first_under-found.ensures.found
-    (λ v lt is_open. c.first_under-found.ensures.first v lt (under_root (length c.deref.result.now + v) (omega arith)) is_open))
+    (λ v lt is_open positive. c.first_under-found.ensures.first v lt (under_root (length c.deref.result.now + v) (omega arith)) is_open positive))
 
 pub returns-in-Some : goal.returns-in-Some
 returns-in-Some c =
     let least : position (λ (b : Bool). b) c.args.unset.now ≡ Some c.in-Some.var = cc in
     rest_first c.args.self.now c.args.unset.now c.in-Some.var c.in-Some.ensures.picked least
     (elim c.if-not-is_empty.branch [
-      | then-not-is_empty+else-is_some w ↦ λ v lt is_open.
+      | then-not-is_empty+else-is_some w ↦ λ v lt is_open positive.
           let e : c.args.self.now ≡ w.deref.result.now = cc in
           let lt' : v < length w.deref.result.now = omega (arith, ap length e) in
           let b : Beats w.deref.result.now w.first_under-found.result v =
-          w.first_under-found.ensures.first v lt' (under_root (length w.deref.result.now + v) (omega arith)) is_open in
+          w.first_under-found.ensures.first v lt' (under_root (length w.deref.result.now + v) (omega arith)) is_open (rw e at positive) in
           let some : is_some w.first_under-found.result ≡ true = beats_some w.deref.result.now w.first_under-found.result v b in
           absurd (cc)
-      | else-not-is_empty w ↦ λ v lt is_open.
+      | else-not-is_empty w ↦ λ v lt is_open positive.
           let e : c.args.self.now ≡ c.self.inside.numbers.items = cc in
           let none : eqb (vec_len c.self.inside.numbers) 0 ≡ true = cc in
           let zero : vec_len c.self.inside.numbers ≡ 0 = eqb-true (vec_len c.self.inside.numbers) 0 none in
