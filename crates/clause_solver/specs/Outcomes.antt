@@ -1,5 +1,5 @@
 -- What a solver answers.
-use Rattle.std.specs.Prelude.{◌≡◌, ◌≢◌, ℕ, ◌≤◌, Bool, false, ◌⊎◌, List, [], ◌∷◌, ◌++◌, length, slice_index_or, All, Contains}
+use Rattle.std.specs.Prelude.{◌≡◌, ◌≢◌, ℕ, ◌<◌, ◌≤◌, ◌^◌, ⊤, Bool, false, ◌⊎◌, List, [], ◌∷◌, ◌++◌, length, slice_index_or, All, Contains}
 use Rattle.clause_store.specs.declared.lit.Lit.{Lit}
 use Rattle.clause_store.specs.declared.line.Line.{Line}
 use Rattle.clause_store.specs.Assignments.{IsMet}
@@ -33,6 +33,12 @@ abbrev pub IsOutcome : List (List Lit) → ℕ → ℕ → Outcome → Type 0
 IsOutcome store vars steps (Satisfied values) = IsSolution store vars values
 IsOutcome store vars steps (Derived d) = (length d.lines ≤ steps) × (IsRefutation store d.lines ⊎ ((d.lines ≡ []) × Contains store []))
 IsOutcome store vars steps (Spent d) = (length d.lines ≡ steps) × IsProgress store d.lines
+
+-- steps are spent only where they are fewer than 3 to the number of variables and no clause is empty
+abbrev pub CanBeSpent : List (List Lit) → ℕ → ℕ → Outcome → Type 0
+CanBeSpent store vars steps (Satisfied values) = ⊤
+CanBeSpent store vars steps (Derived d) = ⊤
+CanBeSpent store vars steps (Spent d) = (steps < 3 ^ vars) × All (λ c. c ≢ []) store
 
 -- what a solver has before each line: its trail is explained, no clause is empty, and no variable is marked
 pub record IsReady (store : List (List Lit)) (lines : List Line) (h : History) (marks : List Bool) : Type 0 where

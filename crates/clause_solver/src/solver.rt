@@ -1,6 +1,6 @@
 ghost use Rattle.std.specs.Prelude.{◌≡◌, ◌≢◌, ℕ, ◌<◌, ◌≤◌, ◌^◌, [], length, false, All, Contains, MatchBool, IfOk, slice_index_or, unwrap_or};
 ghost use Rattle.clause_store.specs.Signs.{Ascends, sign_of};
-ghost use Rattle.clause_solver.specs.Outcomes.{IsOutcome};
+ghost use Rattle.clause_solver.specs.Outcomes.{IsOutcome, CanBeSpent};
 ghost use Rattle.clause_solver.specs.Propagation.{IsOver};
 
 use crate::analysis::analyze;
@@ -9,7 +9,7 @@ use crate::jump::jump_back;
 use crate::outcome::Outcome;
 use crate::search::search;
 use crate::trail::Trail;
-use clause_store::{Cut, Derivation, Line, Lit, Store};
+use clause_store::{Derivation, Line, Store};
 use coco_base::{List, NoMemory};
 use pickers::Picker;
 use std::alloc::Global;
@@ -39,28 +39,18 @@ fn values_of(alloc: Global, trail: &Trail) -> Result<List<bool>, NoMemory>
     Ok(values)
 }
 
-fn bump_lits(picker: &mut Box<dyn Picker>, lits: &[Lit]) {
-    for lit in lits {
-        picker.bump(lit.var);
-    }
-}
-
-fn bump_cuts(picker: &mut Box<dyn Picker>, cuts: &[Cut]) {
-    for cut in cuts {
+/// Tells the picker of each variable that an analysis cut.
+fn bump_cuts(picker: &mut Box<dyn Picker>, line: &Line) {
+    for cut in line.cuts.as_slice() {
         picker.bump(cut.var);
     }
 }
 
-/// Tells the picker of each variable that an analysis met: those of the line's clause and those that were cut.
-fn bump_all(picker: &mut Box<dyn Picker>, line: &Line) {
-    bump_lits(picker, line.clause.as_slice());
-    bump_cuts(picker, line.cuts.as_slice());
-}
-
 /// Searches for values that meet every clause of the store, with at most so many lines of a derivation.
 ///
-/// Where nothing is left to propagate, the variable that the picker answers is set to false. The picker is told of
-/// each variable that the analysis of a conflict met, and is dropped at the end. One line counts as one step.
+/// Where nothing is left to propagate, the variable that the picker answers is set to false. The picker is told of each
+/// variable that is cut for a line that is not empty, and of no others, and is dropped at the end. One line counts as
+/// one step.
 pub fn solve(
     alloc: Global,
     store: &Store,
@@ -72,7 +62,8 @@ pub fn solve(
     requires vars { vars ≤ 2 ^ 30 }
     requires some { 0 < steps }
     requires most { steps ≤ 1000000000 }
-    ensures { IfOk result (IsOutcome store.now vars steps) }
+    ensures outcome { IfOk result (IsOutcome store.now vars steps) }
+    ensures spent { IfOk result (CanBeSpent store.now vars steps) }
 {
     let mut picker = picker;
     let mut lines = List::new(alloc);
@@ -86,11 +77,11 @@ pub fn solve(
             None => return Ok(Outcome::Satisfied(values_of(alloc, &trail)?)),
             Some(id) => {
                 let line = analyze(alloc, &trail, store, lines.as_slice(), id, &mut marks)?;
-                bump_all(&mut picker, &line);
                 if line.clause.is_empty() {
                     lines.push(line)?;
                     return Ok(Outcome::Derived(Derivation { lines }));
                 }
+                bump_cuts(&mut picker, &line);
                 jump_back(&mut trail, line.clause.as_slice());
                 lines.push(line)?;
             }

@@ -235,6 +235,63 @@ fn a_picker_is_asked_and_dropped_once(rt: HostRuntime) -> Result<(), Fail> {
     Ok(())
 }
 
+/// Picks as `FirstOpen`, and counts by variable how often it was told of each.
+struct Told {
+    counts: Rc<Cell<[u32; 3]>>,
+}
+
+impl Drop for Told {
+    fn drop(self) {
+        let Told { counts: _ } = self;
+    }
+}
+
+impl Picker for Told {
+    ghost bound = { λ _. 3 };
+
+    fn size(&self) -> u32 {
+        3
+    }
+
+    fn bump(&mut self, var: u32) {
+        let mut counts = self.counts.get();
+        if var < 3 {
+            counts[var as usize] = counts[var as usize].wrapping_add(1);
+            self.counts.set(counts);
+        }
+    }
+
+    fn pick(&mut self, unset: &[bool]) -> Option<u32> {
+        FirstOpen.pick(unset)
+    }
+}
+
+/// The first decision makes variable 1 true and then a clause false. Variable 1 is cut, and the line is variable 0.
+#[test]
+fn a_picker_is_told_of_what_is_cut_alone(rt: HostRuntime) -> Result<(), Fail> {
+    let alloc = rt.alloc();
+    let counts = Rc::new(alloc, Cell::new([0u32; 3]))?;
+    let picker = Told {
+        counts: counts.clone()?,
+    };
+    let mut store = Store::new(alloc);
+    for (first, second, positive) in [(0, 1, true), (0, 1, false), (0, 2, true), (0, 2, false)] {
+        let one = Lit {
+            var: first,
+            positive: second == 1,
+        };
+        let other = Lit {
+            var: second,
+            positive,
+        };
+        add(&rt, &mut store, &[one, other])?;
+    }
+    let outcome = solved(&rt, alloc, &store, 3, 27, Box::new(alloc, picker)?)?;
+    assert!(rt; matches!(outcome, Outcome::Derived(_)));
+    assert_eq!(rt; counts.get(), [0, 1, 0]);
+    Ok(())
+}
+
 /// Picks the greatest unset variable, and records which were unset at each pick, as the bits of a number.
 struct Recording {
     count: Rc<Cell<u32>>,

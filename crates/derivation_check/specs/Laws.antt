@@ -9,4 +9,5 @@ use Rattle.derivation_check.specs.Verdicts.{IsVerdict}
 -- where a derivation is checked as empty, no values of the variables meet every clause of the store
 abbrev pub RefutationsAreSound : Type 0
 RefutationsAreSound =
-    (store : List (List Lit)) (lines : List Line) (values : ℕ → Bool) → IsVerdict store lines Empty → All (IsMet values) store → ⊥
+    (store : List (List Lit)) (lines : List Line) (values : ℕ → Bool) → IsVerdict store lines Empty →
+    All (IsMet values) store → ⊥

@@ -26,7 +26,8 @@ clauses_text clauses = flat_map clause_text clauses
 
 -- a formula in the DIMACS format
 abbrev pub formula_text : List (List Lit) → ℕ → List ℕ
-formula_text clauses vars = codes "p cnf " ++ (decimal vars ++ (32 ∷ (decimal (length clauses) ++ (10 ∷ clauses_text clauses))))
+formula_text clauses vars = codes "p cnf " ++
+    (decimal vars ++ (32 ∷ (decimal (length clauses) ++ (10 ∷ clauses_text clauses))))
 
 abbrev pub cut_text : Cut → List ℕ
 cut_text cut = index_text cut.var ++ index_text cut.id

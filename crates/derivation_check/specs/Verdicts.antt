@@ -14,7 +14,8 @@ pub record IsFirstWrong (store : List (List Lit)) (lines : List Line) (number : 
   pub at : slice_get lines place ≡ Some line
   pub numbered : number ≡ place + 1
   pub wrong : IsValidLine (earlier store lines place) line → ⊥
-  pub before : (k : ℕ) (earlier_line : Line) → k < place → slice_get lines k ≡ Some earlier_line → IsValidLine (earlier store lines k) earlier_line
+  pub before : (k : ℕ) (earlier_line : Line) → k < place → slice_get lines k ≡ Some earlier_line →
+      IsValidLine (earlier store lines k) earlier_line
 
 abbrev pub IsVerdict : List (List Lit) → List Line → Verdict → Type 0
 IsVerdict store lines (Wrong number) = IsFirstWrong store lines number

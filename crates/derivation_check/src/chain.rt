@@ -62,7 +62,8 @@ fn merge(marks: &mut Marks, clause: &[Lit], var: u32) -> bool
     requires ascending { Ascends clause.now }
     requires within { IsWithin (length marks.old) clause.now }
     ensures size { length marks.new ≡ length marks.old }
-    ensures merged { MatchBool result (IsMerged var (signs_in marks.old) (sign_of clause.now) (signs_in marks.new)) (HasClash var (signs_in marks.old) (sign_of clause.now)) }
+    ensures merged { MatchBool result (IsMerged var (signs_in marks.old) (sign_of clause.now) (signs_in marks.new))
+        (HasClash var (signs_in marks.old) (sign_of clause.now)) }
 {
     'merging: for lit in clause {
         if lit.var != var && !merge_lit(marks, *lit) {
@@ -77,7 +78,8 @@ pub(crate) fn resolve(marks: &mut Marks, clause: &[Lit], var: u32) -> bool
     requires ascending { Ascends clause.now }
     requires within { IsWithin (length marks.old) clause.now }
     ensures size { length marks.new ≡ length marks.old }
-    ensures resolvent { MatchBool result (IsResolvent var (signs_in marks.old) (sign_of clause.now) (signs_in marks.new)) ((r : Signs) → IsResolvent var (signs_in marks.old) (sign_of clause.now) r → ⊥) }
+    ensures resolvent { MatchBool result (IsResolvent var (signs_in marks.old) (sign_of clause.now) (signs_in marks.new))
+        ((r : Signs) → IsResolvent var (signs_in marks.old) (sign_of clause.now) r → ⊥) }
 {
     if !are_opposite(marks.sign(var), sign_in(clause, var)) {
         return false;
@@ -94,7 +96,8 @@ fn cut_once(marks: &mut Marks, store: &Store, lines: &[Line], cut: Cut) -> bool
     requires ascending { All Ascends (clauses_of store.now lines.now) }
     requires within { All (IsWithin (length marks.old)) (clauses_of store.now lines.now) }
     ensures size { length marks.new ≡ length marks.old }
-    ensures cut { MatchBool result (IsCut (clauses_of store.now lines.now) cut (signs_in marks.old) (signs_in marks.new)) ((r : Signs) → IsCut (clauses_of store.now lines.now) cut (signs_in marks.old) r → ⊥) }
+    ensures cut { MatchBool result (IsCut (clauses_of store.now lines.now) cut (signs_in marks.old) (signs_in marks.new))
+        ((r : Signs) → IsCut (clauses_of store.now lines.now) cut (signs_in marks.old) r → ⊥) }
 {
     match clause_at(store, lines, cut.id) {
         Some(clause) => resolve(marks, clause, cut.var),
@@ -107,7 +110,10 @@ pub(crate) fn follow(marks: &mut Marks, store: &Store, lines: &[Line], cuts: &[C
     requires ascending { All Ascends (clauses_of store.now lines.now) }
     requires within { All (IsWithin (length marks.old)) (clauses_of store.now lines.now) }
     ensures size { length marks.new ≡ length marks.old }
-    ensures leads { MatchBool result ((r : Signs) → LeadsTo (clauses_of store.now lines.now) (signs_in marks.old) cuts.now r ↔ ((v : ℕ) → signs_in marks.new v ≡ r v)) ((r : Signs) → LeadsTo (clauses_of store.now lines.now) (signs_in marks.old) cuts.now r → ⊥) }
+    ensures leads { MatchBool result
+        ((r : Signs) →
+        LeadsTo (clauses_of store.now lines.now) (signs_in marks.old) cuts.now r ↔ ((v : ℕ) → signs_in marks.new v ≡ r v))
+        ((r : Signs) → LeadsTo (clauses_of store.now lines.now) (signs_in marks.old) cuts.now r → ⊥) }
 {
     'cutting: for cut in cuts {
         if !cut_once(marks, store, lines, *cut) {
@@ -120,7 +126,9 @@ pub(crate) fn follow(marks: &mut Marks, store: &Store, lines: &[Line], cuts: &[C
 /// Takes the marks of a literal off, or tells that its variable does not have this sign.
 fn take_off(marks: &mut Marks, lit: Lit) -> bool
     ensures size { length marks.new ≡ length marks.old }
-    ensures taken { MatchBool result ((signs_in marks.old lit.var ≡ Some lit.positive) × (marks.new ≡ slice_set marks.old lit.var None)) (signs_in marks.old lit.var ≢ Some lit.positive) }
+    ensures taken { MatchBool result
+        ((signs_in marks.old lit.var ≡ Some lit.positive) × (marks.new ≡ slice_set marks.old lit.var None))
+        (signs_in marks.old lit.var ≢ Some lit.positive) }
 {
     if marks.sign(lit.var) == Some(lit.positive) {
         marks.unmark(lit.var);
@@ -133,7 +141,9 @@ fn take_off(marks: &mut Marks, lit: Lit) -> bool
 pub(crate) fn ends_in(marks: &mut Marks, clause: &[Lit]) -> bool
     requires { Ascends clause.now }
     ensures size { length marks.new ≡ length marks.old }
-    ensures same { MatchBool result (((v : ℕ) → signs_in marks.old v ≡ sign_of clause.now v) × IsClear marks.new) (((v : ℕ) → signs_in marks.old v ≡ sign_of clause.now v) → ⊥) }
+    ensures same { MatchBool result
+        (((v : ℕ) → signs_in marks.old v ≡ sign_of clause.now v) × IsClear marks.new)
+        (((v : ℕ) → signs_in marks.old v ≡ sign_of clause.now v) → ⊥) }
 {
     'taking: for lit in clause {
         if !take_off(marks, *lit) {

@@ -60,8 +60,10 @@ fn read_cut(reader: &mut Reader) -> Option<Cut>
 
 /// Reads literals up to a 0 with a space behind it.
 fn read_lits(alloc: Global, reader: &mut Reader) -> Result<Option<List<Lit>>, NoMemory>
-    ensures some { IfOk result (λ o. IfSome o (λ lits. All IsLitInRange lits × (reader.old ≡ lits_text lits ++ 48 ∷ 32 ∷ reader.new))) }
-    ensures none { IfOk result (λ o. IfNone o ((lits : List Lit) (more : List ℕ) → All IsLitInRange lits → reader.old ≡ lits_text lits ++ 48 ∷ 32 ∷ more → ⊥)) }
+    ensures some { IfOk result (λ o. IfSome o (λ lits. All IsLitInRange lits ×
+        (reader.old ≡ lits_text lits ++ 48 ∷ 32 ∷ reader.new))) }
+    ensures none { IfOk result (λ o. IfNone o ((lits : List Lit) (more : List ℕ) → All IsLitInRange lits →
+        reader.old ≡ lits_text lits ++ 48 ∷ 32 ∷ more → ⊥)) }
 {
     let mut lits = List::new(alloc);
     'reading: loop {
@@ -77,8 +79,10 @@ fn read_lits(alloc: Global, reader: &mut Reader) -> Result<Option<List<Lit>>, No
 
 /// Reads cuts up to a 0 at the end of the line.
 fn read_cuts(alloc: Global, reader: &mut Reader) -> Result<Option<List<Cut>>, NoMemory>
-    ensures some { IfOk result (λ o. IfSome o (λ cuts. All IsCutInRange cuts × (reader.old ≡ cuts_text cuts ++ 48 ∷ 10 ∷ reader.new))) }
-    ensures none { IfOk result (λ o. IfNone o ((cuts : List Cut) (more : List ℕ) → All IsCutInRange cuts → reader.old ≡ cuts_text cuts ++ 48 ∷ 10 ∷ more → ⊥)) }
+    ensures some { IfOk result (λ o. IfSome o (λ cuts. All IsCutInRange cuts ×
+        (reader.old ≡ cuts_text cuts ++ 48 ∷ 10 ∷ reader.new))) }
+    ensures none { IfOk result (λ o. IfNone o ((cuts : List Cut) (more : List ℕ) → All IsCutInRange cuts →
+        reader.old ≡ cuts_text cuts ++ 48 ∷ 10 ∷ more → ⊥)) }
 {
     let mut cuts = List::new(alloc);
     'reading: loop {
@@ -95,7 +99,8 @@ fn read_cuts(alloc: Global, reader: &mut Reader) -> Result<Option<List<Cut>>, No
 /// Reads a line of a derivation, or tells that there is none.
 pub(crate) fn read_line(alloc: Global, reader: &mut Reader) -> Result<Option<Line>, NoMemory>
     ensures some { IfOk result (λ o. IfSome o (λ line. IsPrintable line × (reader.old ≡ line_text line ++ reader.new))) }
-    ensures none { IfOk result (λ o. IfNone o ((line : Line) (more : List ℕ) → IsPrintable line → reader.old ≡ line_text line ++ more → ⊥)) }
+    ensures none { IfOk result (λ o. IfNone o ((line : Line) (more : List ℕ) → IsPrintable line →
+        reader.old ≡ line_text line ++ more → ⊥)) }
 {
     let Some(clause) = read_lits(alloc, reader)? else {
         return Ok(None);

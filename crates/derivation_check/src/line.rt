@@ -14,7 +14,10 @@ pub(crate) fn is_valid(marks: &mut Marks, store: &Store, before: &[Line], line: 
     requires ascending { All Ascends (clauses_of store.now before.now) }
     requires within { All (IsWithin (length marks.old)) (clauses_of store.now before.now) }
     ensures size { length marks.new ≡ length marks.old }
-    ensures valid { MatchBool result (IsValidLine (clauses_of store.now before.now) line.now × IsClear marks.new × IsWithin (length marks.old) line.now.clause) (IsValidLine (clauses_of store.now before.now) line.now → ⊥) }
+    ensures valid { MatchBool result
+        (IsValidLine (clauses_of store.now before.now) line.now × IsClear marks.new ×
+        IsWithin (length marks.old) line.now.clause)
+        (IsValidLine (clauses_of store.now before.now) line.now → ⊥) }
 {
     if !is_ascending(line.clause.as_slice()) {
         return false;
@@ -64,7 +67,8 @@ fn store_has_empty(store: &Store) -> bool
 }
 
 fn lines_have_empty(lines: &[Line]) -> bool
-    ensures { MatchBool result (Contains (map (λ l. l.clause) lines.now) []) (All (λ c. c ≢ []) (map (λ l. l.clause) lines.now)) }
+    ensures { MatchBool result (Contains (map (λ l. l.clause) lines.now) [])
+        (All (λ c. c ≢ []) (map (λ l. l.clause) lines.now)) }
 {
     'looking: for line in lines {
         if line.clause.is_empty() {
@@ -76,7 +80,8 @@ fn lines_have_empty(lines: &[Line]) -> bool
 
 /// Whether the store or a line has the empty clause.
 pub(crate) fn has_empty(store: &Store, lines: &[Line]) -> bool
-    ensures { MatchBool result (Contains (clauses_of store.now lines.now) []) (All (λ c. c ≢ []) (clauses_of store.now lines.now)) }
+    ensures { MatchBool result (Contains (clauses_of store.now lines.now) [])
+        (All (λ c. c ≢ []) (clauses_of store.now lines.now)) }
 {
     store_has_empty(store) || lines_have_empty(lines)
 }

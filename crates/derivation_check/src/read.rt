@@ -28,7 +28,8 @@ impl From<NoMemory> for ProofFault {
 
 /// Takes a text, if it comes next.
 fn take_text(reader: &mut Reader, text: &[u8]) -> bool
-    ensures { MatchBool result (reader.old ≡ text.now ++ reader.new) ((more : List ℕ) → reader.old ≡ text.now ++ more → ⊥) }
+    ensures { MatchBool result (reader.old ≡ text.now ++ reader.new)
+        ((more : List ℕ) → reader.old ≡ text.now ++ more → ⊥) }
 {
     'taking: for byte in text {
         if !reader.take(*byte) {
@@ -41,7 +42,8 @@ fn take_text(reader: &mut Reader, text: &[u8]) -> bool
 /// Reads the first line of a proof text, which has the number of the lines behind it.
 fn read_head(reader: &mut Reader) -> Option<u32>
     ensures some { IfSome result (λ count. (count ≤ 2147483647) × (reader.old ≡ head_text count ++ reader.new)) }
-    ensures none { IfNone result ((count : ℕ) (more : List ℕ) → count ≤ 2147483647 → reader.old ≡ head_text count ++ more → ⊥) }
+    ensures none { IfNone result ((count : ℕ) (more : List ℕ) → count ≤ 2147483647 →
+        reader.old ≡ head_text count ++ more → ⊥) }
 {
     if !take_text(reader, b"proof ") {
         return None;
@@ -77,7 +79,8 @@ pub fn read_derivation(alloc: Global, bytes: &[u8]) -> Result<Derivation, ProofF
     ensures read { IfOk result (λ d. IsProofText bytes.now d.lines) }
     ensures fault { IfErr result (IsFault bytes.now) }
     // what was printed is read again
-    ensures again { (lines : List Line) → IsProofText bytes.now lines → MatchResult result (λ d. d.lines ≡ lines) (λ e. e ≡ Memory) }
+    ensures again { (lines : List Line) → IsProofText bytes.now lines →
+        MatchResult result (λ d. d.lines ≡ lines) (λ e. e ≡ Memory) }
 {
     read_all(alloc, &mut Reader::new(bytes))
 }

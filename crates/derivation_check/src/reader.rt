@@ -36,7 +36,8 @@ impl<'a> Reader<'a> {
 
     /// Takes a byte, if it comes next.
     pub(crate) fn take(&mut self, byte: u8) -> bool
-        ensures { MatchBool result (self.old ≡ byte ∷ self.new) ((self.new ≡ self.old) × ((more : List ℕ) → self.old ≡ byte ∷ more → ⊥)) }
+        ensures { MatchBool result (self.old ≡ byte ∷ self.new) ((self.new ≡ self.old) ×
+            ((more : List ℕ) → self.old ≡ byte ∷ more → ⊥)) }
     {
         match self.rest.first() {
             Some(next) if *next == byte => {
@@ -49,7 +50,8 @@ impl<'a> Reader<'a> {
 
     /// Takes a 0 with a byte behind it, if they come next.
     pub(crate) fn take_zero(&mut self, end: u8) -> bool
-        ensures { MatchBool result (self.old ≡ 48 ∷ end ∷ self.new) ((self.new ≡ self.old) × ((more : List ℕ) → self.old ≡ 48 ∷ end ∷ more → ⊥)) }
+        ensures { MatchBool result (self.old ≡ 48 ∷ end ∷ self.new) ((self.new ≡ self.old) ×
+            ((more : List ℕ) → self.old ≡ 48 ∷ end ∷ more → ⊥)) }
     {
         if self.rest.len() < 2 {
             return false;
@@ -91,7 +93,8 @@ impl<'a> Reader<'a> {
 fn digits_len(bytes: &[u8]) -> usize
     ensures digits { (k : ℕ) → k < result → (48 ≤ slice_index bytes.now k) × (slice_index bytes.now k ≤ 57) }
     ensures within { result ≤ length bytes.now }
-    ensures end { result < length bytes.now → (48 ≤ slice_index bytes.now result) → (slice_index bytes.now result ≤ 57) → ⊥ }
+    ensures end { result < length bytes.now → (48 ≤ slice_index bytes.now result) →
+        (slice_index bytes.now result ≤ 57) → ⊥ }
 {
     'counting: for (place, byte) in bytes.iter().enumerate() {
         if !byte.is_ascii_digit() {

@@ -144,6 +144,20 @@ fn prints_and_reads_again(rt: HostRuntime) -> Result<(), Fail> {
     Ok(())
 }
 
+#[test]
+fn a_variable_with_both_signs_is_refused(rt: HostRuntime) -> Result<(), Fail> {
+    let alloc = rt.alloc();
+    let mut store = Store::new(alloc);
+    add(&rt, &mut store, &[lit(0, true), lit(1, true)])?;
+    add(&rt, &mut store, &[lit(0, false), lit(1, false)])?;
+    let text = b"proof 1\n0 1 1 2 0\n";
+    assert_eq!(rt;
+        verdict_of(&rt, alloc, &store, text)?,
+        Verdict::Wrong { line: 1 }
+    );
+    Ok(())
+}
+
 /// One line of 100,000 literals by as many cuts.
 #[test]
 fn checks_a_wide_line(rt: HostRuntime) -> Result<(), Fail> {

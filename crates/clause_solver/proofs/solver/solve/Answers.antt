@@ -1,10 +1,11 @@
-use Rattle.std.proofs.Common.{◌≡◌, ◌≢◌, ◌+◌, ◌++◌, ◌∷◌, [], length, take, drop, refl, sym, ◌∙◌, ap, inl, arith}
+use Rattle.std.proofs.Common.{◌≡◌, ◌≢◌, ◌+◌, ◌<◌, ◌^◌, ◌++◌, ◌∷◌, [], length, take, drop, refl, sym, ◌∙◌, ap, inl, arith}
 use Rattle.std.proofs.lemmas.Bool.{iff_false}
 use Rattle.std.proofs.lemmas.List.{take_at, length_push}
 use Rattle.clause_store.specs.declared.line.Line.{Line}
 use Rattle.clause_store.specs.Derivations.{clauses_of, IsValidLine}
 use Rattle.clause_solver.specs.Propagation.{IsExplained, IsModel, IsInRange}
 use Rattle.clause_solver.specs.Outcomes.{IsReady}
+use Rattle.clause_solver.proofs.LineCount.{few_lines}
 use Rattle.clause_solver.proofs.OutcomeFacts.{ready_new, ready_more, ready_searched, refuted, solution}
 use Rattle.clause_solver.proofs.solver.solve.Goals as goal
 
@@ -17,15 +18,15 @@ stepping-init g c =
       vars = rw c.in_ok-trail.ensures refl;
     }
 
-pub returns-in-None : goal.returns-in-None
-returns-in-None g c =
+pub returns-in-None-clause-outcome : goal.returns-in-None-clause-outcome
+returns-in-None-clause-outcome g c =
     let model : IsModel (clauses_of c.args.store.now c.stepping.lines) c.search.new.trail = rw (c.in-None.is, c.as_slice.ensures) at c.in_ok-search.ensures.searched in
     let x : IsExplained (clauses_of c.args.store.now c.stepping.lines) c.search.new.trail = rw c.as_slice.ensures at c.in_ok-search.ensures.explained in
     let vars : c.search.new.trail.vars ≡ c.args.vars = c.in_ok-search.ensures.vars ∙ c.stepping.invariant.vars in
     rw (← vars) (solution _ _ _ _ x model (c.in_ok-values_of-in-None).ensures.len (c.in_ok-values_of-in-None).ensures.values)
 
-pub returns-then-is_empty : goal.returns-then-is_empty
-returns-then-is_empty g c =
+pub returns-then-is_empty-clause-outcome : goal.returns-then-is_empty-clause-outcome
+returns-then-is_empty-clause-outcome g c =
     let line : Line = (c.in_ok-line-in-Some).line in
     let push : c.push.new.self ≡ c.stepping.lines ++ (c.in_ok-line-in-Some).line ∷ [] = (c.in_ok-push-in-Some).ensures.ok in
     let valid : IsValidLine (clauses_of c.args.store.now c.stepping.lines) (c.in_ok-line-in-Some).line = rw c.as_slice-in-Some.ensures at (c.in_ok-line-in-Some).ensures.valid in
@@ -53,3 +54,8 @@ stepping-preserved g c =
       count = ap length push ∙ length_push _ _ ∙ ap (λ n. n + 1) c.stepping.invariant.count;
       vars = c.jump_back.ensures.vars ∙ c.in_ok-search.ensures.vars ∙ c.stepping.invariant.vars;
     }
+
+pub returns-clause-spent : goal.returns-clause-spent
+returns-clause-spent g c =
+    let few : length c.stepping.lines < 3 ^ c.args.vars = few_lines c.args.store.now c.stepping.lines c.args.vars c.has_empty.ensures.ascending c.requires.range c.stepping.invariant.ready.progress in
+    (omega (arith, c.stepping.invariant.count), c.if-has_empty.ensures.found)
