@@ -185,7 +185,6 @@ one_more_mask old new name is secrets masks fresh declared per_cycle few =
       wide = is.wide;
       shared = is.shared;
       mask_wide = each_more (λ (m : MaskPlan). 0 < m.width) old.masks (next_mask old name) is.mask_wide (omega arith);
-      fresh_wide = is.fresh_wide;
       few = few;
       once = labels.once;
       each = labels.each;
@@ -205,7 +204,6 @@ one_more_secret old new name shares some is secrets masks fresh declared per_cyc
       wide = each_more (λ (s : SecretPlan). 0 < s.width) old.secrets (next_secret old name shares) is.wide (omega arith);
       shared = each_more (λ (s : SecretPlan). 0 < s.shares) old.secrets (next_secret old name shares) is.shared some;
       mask_wide = is.mask_wide;
-      fresh_wide = is.fresh_wide;
       few = few;
       once = labels.once;
       each = labels.each;

@@ -102,7 +102,6 @@ nothing_numbers = record {
   wide = λ s h. absurd (Contains-none s h);
   shared = λ s h. absurd (Contains-none s h);
   mask_wide = λ m h. absurd (Contains-none m h);
-  fresh_wide = λ m h. absurd (Contains-none m h);
   few = lit≤ tt;
   once = tt;
   each = none_below;

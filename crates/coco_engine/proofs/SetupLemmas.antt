@@ -24,7 +24,7 @@ clock_found flat b = subst (λ (x : Option ℕ). port_bit flat.ports ≡ x) (ap 
 
 one_bound : (flat : Flat) (table : LabelTable) (starts : List Start) → (b : IsBuilt flat)
     → bound_bits (setup_with flat table starts) ≡ b.clock ∷ []
-one_bound flat table starts b = ap (λ (o : Option ℕ). option_to_list o ++ [] ++ [] ++ []) (clock_found flat b)
+one_bound flat table starts b = ap (λ (o : Option ℕ). option_to_list o ++ [] ++ [] ++ [] ++ []) (clock_found flat b)
 
 bound : (flat : Flat) (table : LabelTable) (starts : List Start) → IsBuilt flat → IsBound flat (setup_with flat table starts)
 bound flat table starts b =
@@ -46,6 +46,7 @@ ready flat table starts b is = record {
     no_inputs = refl;
     no_echoes = refl;
     no_memories = refl;
+    no_leaves = refl;
   };
   one = b.one;
   range = b.range;

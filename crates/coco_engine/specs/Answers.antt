@@ -26,7 +26,7 @@ use Rattle.coco_engine.specs.declared.refusal.Refusal.{Refusal}
 use Rattle.coco_engine.specs.declared.refusal.Refusal.TheVariants.{Long, NotBuilt}
 use Rattle.coco_engine.specs.declared.reading.ReadStop.{ReadStop}
 use Rattle.coco_engine.specs.declared.reading.ReadStop.TheVariants as stop
-use Rattle.netlist_json.specs.Netlist.{netlist_from}
+use Rattle.first_netlist.specs.Netlist.{netlist_from}
 
 abbrev pub fault_line : List ℕ → List ℕ
 fault_line name = line_of (codes "read fault ") name (codes "\n")
@@ -40,16 +40,16 @@ pub record Rejects (c : Command) (flat : Flat) (setup : Setup) (text : List ℕ)
   pub reached : AreConnected flat setup.clock leak.probe.bit leaves
   pub written : text ≡ rejected_text c flat setup.table leak leaves
 
--- the report of an accepted run: each probe's structural cone lacks a share of every secret bit; runs and reaches exist;
--- and single probes see the same whatever the secrets are: the old and new values of all leaves that they reach by
--- structure, those of the leaves that they reach where calm bits block, and the waveforms of their bits under every
+-- the report of an accepted run: each probe's structural cone lacks a share of every secret bit; runs and reaches
+-- exist; and single probes see the same whatever the secrets are: the old and new values of all leaves that they reach
+-- by structure, those of the leaves that they reach where calm bits block, and the waveforms of their bits under every
 -- order of gate events
 pub record Accepts (c : Command) (flat : Flat) (setup : Setup) (text : List ℕ) : Type 0 where
-  pub hides : (p : Probe) → IsProbe flat setup c.cycles p → HidesSecrets flat setup p
+  pub hides : (p : Probe) → IsProbe flat.bits setup.clock c.cycles p → HidesSecrets flat setup p
   pub meaning : HasMeaning flat setup c.cycles
   pub secure : IsWidelySecure flat setup c.cycles 1
-  pub narrow : IsSecure flat setup c.cycles 1
-  pub in_time : IsSecureInTime flat setup c.cycles 1
+  pub narrow : IsSecure flat setup c.cycles 1 1
+  pub in_time : IsSecureInTime flat setup c.cycles 1 1
   pub written : text ≡ accepted_text c flat setup.table
 
 -- this text goes with this status for a netlist and a setup

@@ -12,7 +12,10 @@ abbrev pub name_text : Flat → ℕ → List ℕ
 name_text flat bit = bit_text bit (name_of_bit flat bit)
 
 unfoldable pub probe_line : Flat → Leak → List ℕ
-probe_line flat leak = codes "probe " ++ name_text flat leak.probe.bit ++ codes " gate " ++ printed (driver_of flat.cells flat.flops leak.probe.bit) ++ codes " cycle " ++ decimal leak.probe.cycle ++ codes " pc - line -\n"
+probe_line flat leak =
+    codes "probe " ++ name_text flat leak.probe.bit ++ codes " gate "
+    ++ printed (driver_of flat.cells flat.flops leak.probe.bit)
+    ++ codes " cycle " ++ decimal leak.probe.cycle ++ codes " pc - line -\n"
 
 unfoldable pub sees_line : Flat → ℕ → ℕ → List ℕ
 sees_line flat cycle leaf = codes "sees " ++ name_text flat leaf ++ codes " cycle " ++ decimal cycle ++ codes "\n"
@@ -40,4 +43,5 @@ set_text (Some secret) = set_line secret
 
 -- the probe, each pair of leaf and cycle that it shows, and the shares of the secret bit
 unfoldable pub finding_text : Flat → List SecretPlan → Leak → List ℕ → List ℕ
-finding_text flat secrets leak leaves = probe_line flat leak ++ seen_text flat leaves leak.probe.cycle ++ set_text (slice_get secrets leak.secret)
+finding_text flat secrets leak leaves =
+    probe_line flat leak ++ seen_text flat leaves leak.probe.cycle ++ set_text (slice_get secrets leak.secret)

@@ -23,7 +23,8 @@ is_bit bit (Const b) = false
 is_bit bit (Bit n) = n == bit
 
 abbrev pub name_in : List ℕ → List Wire → ℕ → Option BitName
-name_in name wires bit = option_map (λ place. record { name = name; width = length wires; place = place }) (position (is_bit bit) wires)
+name_in name wires bit =
+    option_map (λ place. record { name = name; width = length wires; place = place }) (position (is_bit bit) wires)
 
 -- a name that begins with a dollar sign
 abbrev pub is_hidden : List ℕ → Bool

@@ -1,8 +1,8 @@
 -- Refusals: which of the files is refused first, and the line that says so.
 use Rattle.std.specs.Prelude.{ℕ, List, length, Option, Some, None, Result, Ok, Err, nat_lt, codes, if◌then◌else◌}
-use Rattle.netlist_json.specs.Netlist.{netlist_from}
-use Rattle.netlist_json.specs.declared.fault.NetFault.{NetFault}
-use Rattle.netlist_json.specs.declared.fault.NetFault.TheVariants as net
+use Rattle.first_netlist.specs.Netlist.{netlist_from}
+use Rattle.first_netlist.specs.declared.fault.NetFault.{NetFault}
+use Rattle.first_netlist.specs.declared.fault.NetFault.TheVariants as net
 use Rattle.coco_base.specs.declared.netlist.Flat.{Flat}
 use Rattle.coco_engine.specs.declared.refusal.Refusal.{Refusal}
 use Rattle.coco_engine.specs.declared.refusal.Refusal.TheVariants.{Long, NotJson, NotBuilt}
@@ -36,4 +36,6 @@ netlist_refusal name (Err net.Memory) = None
 
 -- the first refusal of the two files, but for that of the labels' form
 abbrev pub refusal_of : Command → List ℕ → List ℕ → Option Refusal
-refusal_of c netlist labels = or_else (length_refusal c.netlist netlist) (or_else (length_refusal c.labels labels) (netlist_refusal c.netlist (netlist_from netlist)))
+refusal_of c netlist labels =
+    or_else (length_refusal c.netlist netlist)
+    (or_else (length_refusal c.labels labels) (netlist_refusal c.netlist (netlist_from netlist)))

@@ -21,4 +21,5 @@ abbrev pub accepted_text : Command → Flat → LabelTable → List ℕ
 accepted_text c flat table = head_of (codes "accepted\n") c flat table
 
 abbrev pub rejected_text : Command → Flat → LabelTable → Leak → List ℕ → List ℕ
-rejected_text c flat table leak leaves = head_of (codes "rejected\n") c flat table ++ finding_text flat table.secrets leak leaves
+rejected_text c flat table leak leaves =
+    head_of (codes "rejected\n") c flat table ++ finding_text flat table.secrets leak leaves

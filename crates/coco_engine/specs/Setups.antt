@@ -15,6 +15,7 @@ setup_with flat table starts = record {
   echoes = [];
   memories = [];
   words = [];
+  leaves = [];
   controls = [];
   pc = [];
   lines = [];

@@ -41,7 +41,10 @@ cycles_of word = if is_number word && is_within 1 most_cycles (number_of word) t
 
 abbrev pub command_with : List ℕ → List ℕ → Option ℕ → Option Command
 command_with netlist labels None = None
-command_with netlist labels (Some cycles) = if is_name netlist && is_name labels then Some (record { netlist = netlist; labels = labels; cycles = cycles }) else None
+command_with netlist labels (Some cycles) =
+    if is_name netlist && is_name labels then
+    Some (record { netlist = netlist; labels = labels; cycles = cycles })
+    else None
 
 -- what the words mean, where they are words of the grammar
 abbrev pub command : List (List ℕ) → Option Command

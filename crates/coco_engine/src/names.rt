@@ -68,8 +68,10 @@ fn goes_before(a: &Named, b: &Named) -> bool
     }
 }
 
-fn better<'a>(best: Option<Named<'a>>, other: Option<Named<'a>>) -> Option<Named<'a>>
-    ensures { option_map shown_name result ≡ better (option_map shown_name best.entry) (option_map shown_name other.entry) }
+// of two names that which goes first, and the earlier one of equals
+fn best_of<'a>(best: Option<Named<'a>>, other: Option<Named<'a>>) -> Option<Named<'a>>
+    ensures { option_map shown_name result
+        ≡ better (option_map shown_name best.entry) (option_map shown_name other.entry) }
 {
     match (best, other) {
         (None, other) => other,
@@ -101,7 +103,7 @@ fn net_name(nets: &[FlatNet], bit: u32) -> Option<Named<'_>>
 {
     let mut best = None;
     'nets: for net in nets {
-        best = better(
+        best = best_of(
             best,
             name_in(net.name.as_bytes(), net.wires.as_slice(), bit),
         );
@@ -110,11 +112,12 @@ fn net_name(nets: &[FlatNet], bit: u32) -> Option<Named<'_>>
 }
 
 fn port_name<'a>(ports: &'a [FlatPort], bit: u32, from: Option<Named<'a>>) -> Option<Named<'a>>
-    ensures { option_map shown_name result ≡ fold better (option_map shown_name from.entry) (map (port_name bit) ports.entry.now) }
+    ensures { option_map shown_name result
+        ≡ fold better (option_map shown_name from.entry) (map (port_name bit) ports.entry.now) }
 {
     let mut best = from;
     'ports: for port in ports {
-        best = better(
+        best = best_of(
             best,
             name_in(port.name.as_bytes(), port.wires.as_slice(), bit),
         );

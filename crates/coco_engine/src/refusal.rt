@@ -1,7 +1,7 @@
 ghost use Rattle.std.specs.Prelude.{◌≡◌, IfOk};
 ghost use Rattle.coco_engine.specs.Refusals.{refusal_line};
 
-use crate::text::{copied, line};
+use crate::text::{copy_of, line};
 use coco_base::{NoMemory, Text};
 use std::alloc::Global;
 
@@ -17,7 +17,7 @@ pub enum Refusal {
 }
 
 /// The line that says why.
-pub fn text(alloc: Global, refusal: &Refusal) -> Result<Vec<u8>, NoMemory>
+pub fn refusal_text(alloc: Global, refusal: &Refusal) -> Result<Vec<u8>, NoMemory>
     ensures { IfOk result (λ v. v.items ≡ refusal_line refusal.now) }
 {
     match refusal {
@@ -27,7 +27,7 @@ pub fn text(alloc: Global, refusal: &Refusal) -> Result<Vec<u8>, NoMemory>
             name.as_bytes(),
             b" longer than 134217728\n",
         ),
-        Refusal::NotJson => copied(alloc, b"refused 101 not JSON\n"),
+        Refusal::NotJson => copy_of(alloc, b"refused 101 not JSON\n"),
         Refusal::NotBuilt { name } => line(
             alloc,
             b"refused 190 not built ",

@@ -8,7 +8,7 @@ ghost use Rattle.coco_engine.specs.Shown.{shown_name};
 ghost use Rattle.coco_engine.specs.Text.{printed};
 
 use crate::names::{Named, driver, name_of};
-use crate::text::{add, copied, shown};
+use crate::text::{add, copy_of, printable};
 use crate::words::Request;
 use coco_base::{Flat, LabelTable, NoMemory, SecretPlan};
 use std::alloc::Global;
@@ -40,7 +40,7 @@ fn head(
 ) -> Result<Vec<u8>, NoMemory>
     ensures { IfOk result (λ v. v.items ≡ head_of verdict.now (shown_command request.now) flat.now table.now) }
 {
-    let mut text = copied(alloc, verdict)?;
+    let mut text = copy_of(alloc, verdict)?;
     add(&mut text, b"order 1\n")?;
     add_count(&mut text, alloc, b"cycles ", u64::from(request.cycles))?;
     add_count(
@@ -60,7 +60,7 @@ fn head(
 }
 
 /// The report of a run that no probe rejects.
-pub fn accepted(
+pub fn accepted_report(
     alloc: Global,
     request: &Request,
     flat: &Flat,
@@ -72,7 +72,7 @@ pub fn accepted(
 }
 
 /// The report of a run that a probe rejects, which reaches these leaves.
-pub fn rejected(
+pub fn rejected_report(
     alloc: Global,
     request: &Request,
     flat: &Flat,
@@ -80,7 +80,8 @@ pub fn rejected(
     leak: &Leak,
     leaves: &[u32],
 ) -> Result<Vec<u8>, NoMemory>
-    ensures { IfOk result (λ v. v.items ≡ rejected_text (shown_command request.now) flat.now table.now leak.now leaves.now) }
+    ensures { IfOk result (λ v.
+        v.items ≡ rejected_text (shown_command request.now) flat.now table.now leak.now leaves.now) }
 {
     let mut text = head(alloc, b"rejected\n", request, flat, table)?;
     add_finding(
@@ -97,8 +98,8 @@ pub fn rejected(
 fn add_shown(text: &mut Vec<u8>, alloc: Global, name: &[u8]) -> Result<(), NoMemory>
     ensures { OnOk result (text.new.items ≡ text.old.items ++ printed name.now) }
 {
-    let name = shown(alloc, name)?;
-    add(text, name.as_slice())
+    let printed = printable(alloc, name)?;
+    add(text, printed.as_slice())
 }
 
 // the place of a bit in a net or a port of several

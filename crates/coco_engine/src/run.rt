@@ -10,15 +10,15 @@ ghost use Rattle.coco_engine.specs.Words.{command, texts};
 
 use crate::labels::read_labels;
 use crate::reading::{ReadStop, read_whole};
-use crate::refusal::{self, Refusal};
-use crate::report;
+use crate::refusal::{Refusal, refusal_text};
+use crate::report::{accepted_report, rejected_report};
 use crate::setup::setup_of;
 use crate::text::line;
 use crate::words::{Request, read_words};
 use crate::writing::write_whole;
 use coco_base::{Failed, Flat, NoMemory, Setup, Shelf, Sink, Status, Text};
+use first_netlist::{NetFault, read_netlist};
 use netlist_facts::built_law;
-use netlist_json::{NetFault, read_netlist};
 use std::alloc::Global;
 use wide_cones::{first_leak, reached_leaves};
 use wide_laws::hidden_in_time_law;
@@ -30,22 +30,24 @@ struct Reply {
     text: Vec<u8>,
 }
 
-fn refused(alloc: Global, refusal: &Refusal) -> Result<Reply, NoMemory>
+// the reply that refuses a call
+fn refusal_reply(alloc: Global, refusal: &Refusal) -> Result<Reply, NoMemory>
     ensures status { IfOk result (λ r. r.status ≡ Status.Refused) }
     ensures text { IfOk result (λ r. r.text.items ≡ refusal_line refusal.now) }
 {
     Ok(Reply {
         status: Status::Refused,
-        text: refusal::text(alloc, refusal)?,
+        text: refusal_text(alloc, refusal)?,
     })
 }
 
-fn not_built(alloc: Global, name: &str) -> Result<Reply, NoMemory>
+// the reply where the file of a name is outside the form
+fn form_reply(alloc: Global, name: &str) -> Result<Reply, NoMemory>
     ensures status { IfOk result (λ r. r.status ≡ Status.Refused) }
     ensures text { IfOk result (λ r. r.text.items ≡ refusal_line (Refusal.NotBuilt name.now)) }
 {
     let name = Text::of(alloc, name)?;
-    refused(alloc, &Refusal::NotBuilt { name })
+    refusal_reply(alloc, &Refusal::NotBuilt { name })
 }
 
 // the verdict on a netlist with a setup
@@ -55,20 +57,22 @@ fn verdict(alloc: Global, request: &Request, flat: &Flat, setup: &Setup) -> Resu
     ensures { IfOk result (λ r. SetupAnswers (shown_command request.now) flat.now setup.now r.status r.text.items) }
 {
     let Some(leak) = first_leak(alloc, flat, setup, request.cycles)? else {
+        // no probe's cone holds a secret, so single probes see the same whatever the secrets are
         hidden_in_time_law();
         return Ok(Reply {
             status: Status::Accepted,
-            text: report::accepted(alloc, request, flat, &setup.table)?,
+            text: accepted_report(alloc, request, flat, &setup.table)?,
         });
     };
     let leaves = reached_leaves(alloc, flat, setup, leak.probe.bit)?;
     Ok(Reply {
         status: Status::Rejected,
-        text: report::rejected(alloc, request, flat, &setup.table, &leak, leaves.as_slice())?,
+        text: rejected_report(alloc, request, flat, &setup.table, &leak, leaves.as_slice())?,
     })
 }
 
-fn judged_flat(
+// the reply to a label file of these bytes
+fn flat_reply(
     alloc: Global,
     request: &Request,
     flat: &Flat,
@@ -82,12 +86,12 @@ fn judged_flat(
             let setup = setup_of(alloc, flat, read);
             verdict(alloc, request, flat, &setup)
         }
-        None => not_built(alloc, request.labels),
+        None => form_reply(alloc, request.labels),
     }
 }
 
-// the answer to the bytes of a netlist and of a label file
-fn judged(
+// the reply to the bytes of a netlist and of a label file
+fn bytes_reply(
     alloc: Global,
     request: &Request,
     netlist: &[u8],
@@ -97,23 +101,24 @@ fn judged(
     requires labels_fit { length labels.now ≤ file_limit }
     ensures { IfOk result (λ r. Answers (shown_command request.now) netlist.now labels.now r.status r.text.items) }
 {
+    // what is read as a netlist has no loops, and its one port is the clock
     built_law();
     match read_netlist(alloc, netlist) {
-        Ok(flat) => judged_flat(alloc, request, &flat, labels),
-        Err(NetFault::NotJson) => refused(alloc, &Refusal::NotJson),
-        Err(NetFault::NotBuilt) => not_built(alloc, request.netlist),
+        Ok(flat) => flat_reply(alloc, request, &flat, labels),
+        Err(NetFault::NotJson) => refusal_reply(alloc, &Refusal::NotJson),
+        Err(NetFault::NotBuilt) => form_reply(alloc, request.netlist),
         Err(NetFault::Memory) => Err(NoMemory),
     }
 }
 
-// the answer in place of a file that was not read
-fn stopped(alloc: Global, name: &str, stop: ReadStop) -> Result<Reply, NoMemory>
+// the reply in place of a file that was not read
+fn stop_reply(alloc: Global, name: &str, stop: ReadStop) -> Result<Reply, NoMemory>
     ensures { IfOk result (λ r. StopAnswers name.now stop r.status r.text.items) }
 {
     match stop {
         ReadStop::Long => {
             let name = Text::of(alloc, name)?;
-            refused(alloc, &Refusal::Long { name })
+            refusal_reply(alloc, &Refusal::Long { name })
         }
         ReadStop::Failed => Ok(Reply {
             status: Status::ReadFault,
@@ -123,20 +128,22 @@ fn stopped(alloc: Global, name: &str, stop: ReadStop) -> Result<Reply, NoMemory>
     }
 }
 
-// the answer to the two files of a shelf
+// the reply to the two files of a shelf
 fn reply_to<F: Shelf>(alloc: Global, request: &Request, shelf: &mut F) -> Result<Reply, NoMemory>
-    ensures { IfOk result (λ r. MayWrite (F.holds shelf.old) (F.faults shelf.old) (F.faults shelf.new)
+    ensures answer { IfOk result (λ r. MayWrite (F.holds shelf.old) (F.faults shelf.old) (F.faults shelf.new)
         (shown_command request.now) r.status r.text.items) }
+    ensures held { F.holds shelf.new ≡ F.holds shelf.old }
+    ensures later { F.faults shelf.old ≤ F.faults shelf.new }
 {
     let netlist = match read_whole(alloc, shelf, request.netlist) {
         Ok(bytes) => bytes,
-        Err(stop) => return stopped(alloc, request.netlist, stop),
+        Err(stop) => return stop_reply(alloc, request.netlist, stop),
     };
     let labels = match read_whole(alloc, shelf, request.labels) {
         Ok(bytes) => bytes,
-        Err(stop) => return stopped(alloc, request.labels, stop),
+        Err(stop) => return stop_reply(alloc, request.labels, stop),
     };
-    judged(alloc, request, netlist.as_slice(), labels.as_slice())
+    bytes_reply(alloc, request, netlist.as_slice(), labels.as_slice())
 }
 
 /// Judges a netlist with a label file, named by the first two words, for as many cycles as the third word says, and
@@ -144,7 +151,8 @@ fn reply_to<F: Shelf>(alloc: Global, request: &Request, shelf: &mut F) -> Result
 ///
 /// Words outside the grammar give `Usage`. The other clauses say what is left in the sink: for each status which text,
 /// after a failed write a proper front of a text that could have been written whole, and nothing where memory was
-/// refused. Where the shelf does not tell a file, the answer is right for some bytes of it.
+/// refused. Where the shelf does not tell a file, the answer is right for some bytes of it. Whatever is answered, the
+/// shelf holds what it held, and neither count of faults falls.
 pub fn check_run<F: Shelf, K: Sink>(
     alloc: Global,
     words: &[String],
@@ -160,6 +168,8 @@ pub fn check_run<F: Shelf, K: Sink>(
     ensures leaves { IfSome (command (texts words.now)) (λ c.
         Leaves (MayWrite (F.holds shelf.old) (F.faults shelf.old) (F.faults shelf.new) c)
         (K.taken out.old) (K.taken out.new) result) }
+    ensures held { F.holds shelf.new ≡ F.holds shelf.old }
+    ensures later { (F.faults shelf.old ≤ F.faults shelf.new) × (K.faults out.old ≤ K.faults out.new) }
 {
     let Some(request) = read_words(words) else {
         return Status::Usage;

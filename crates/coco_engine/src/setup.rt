@@ -16,6 +16,7 @@ pub fn setup_of(alloc: Global, flat: &Flat, labels: Labels) -> Setup
         echoes: List::new(alloc),
         memories: List::new(alloc),
         words: List::new(alloc),
+        leaves: List::new(alloc),
         controls: List::new(alloc),
         pc: List::new(alloc),
         lines: List::new(alloc),

@@ -1,49 +1,31 @@
 ghost use Rattle.std.specs.Prelude.{◌≤◌};
 
 use crate::check_run;
+use circuit_rows::json;
 use coco_base::{List, MemFile, MemShelf, MemSink, NoMemory, Status, Text};
 use std::alloc::Global;
+use std::process::Abort;
 use std::test::Fail;
 
-// the flops and gates of a netlist, in the order of their bits from 3 on, and their wires
-const KEEP: &str =
-    r#""c_q0":{"type":"$_DFF_P_","connections":{"C":[2],"D":[3],"Q":[3]}},"c_q1":{"type":"$_DFF_P_","connections":{"C":[2],"D":[4],"Q":[4]}}"#;
+// registers that keep the shares of a secret, and a third that keeps a mask
+const KEEP: &str = "q0 = FLOP(q0)\nq1 = FLOP(q1)\n";
 
-const MASK: &str = r#","c_n":{"type":"$_DFF_P_","connections":{"C":[2],"D":[5],"Q":[5]}}"#;
+const KEEP_MASKED: &str = "q0 = FLOP(q0)\nq1 = FLOP(q1)\nn = FLOP(n)\n";
 
-const KEPT: &str = "clock clk\nsecret a 1 2\nreg q0 a.0\nreg q1 a.1\n";
+const LABELS: &str = "clock clk\nsecret a 1 2\nreg q0 a.0\nreg q1 a.1\n";
 
-const MASKED: &str = "clock clk\nsecret a 1 2\nmask m 1\nreg q0 a.0\nreg q1 a.1\nreg n m\n";
+const MASKED_LABELS: &str = "clock clk\nsecret a 1 2\nmask m 1\nreg q0 a.0\nreg q1 a.1\nreg n m\n";
 
-fn netlist(alloc: Global, cells: &[&str], nets: &[&str]) -> Result<String, NoMemory> {
-    let mut text = String::from_str(
-        alloc,
-        r#"{"modules":{"t":{"ports":{"clk":{"direction":"input","bits":[2]}},"cells":{"#,
-    )?;
-    for cell in cells {
-        text.push_str(cell)?;
-    }
-    text.push_str(r#"},"netnames":{"clk":{"bits":[2]}"#)?;
-    for (place, net) in nets.iter().enumerate() {
-        text.push_str(format!(in alloc;
-            ",\"{net}\":{{\"bits\":[{}]}}",
-            place.saturating_add(3)
-        )?.as_str())?;
-    }
-    text.push_str("}}}}")?;
-    Ok(text)
-}
-
-fn file(alloc: Global, name: &str, text: &str) -> Result<MemFile, NoMemory> {
+fn file(alloc: Global, name: &str, bytes: &[u8]) -> Result<MemFile, NoMemory> {
     Ok(MemFile {
         name: Text::of(alloc, name)?,
-        bytes: List::from_vec(text.as_bytes().to_vec(alloc)?),
+        bytes: List::from_vec(bytes.to_vec(alloc)?),
     })
 }
 
-fn shelf(
+fn shelf_of(
     alloc: Global,
-    netlist: &str,
+    netlist: &[u8],
     labels: &str,
     piece: usize,
     fails: &[u32],
@@ -52,11 +34,11 @@ fn shelf(
 {
     let mut files = List::new(alloc);
     files.push(file(alloc, "n.json", netlist)?)?;
-    files.push(file(alloc, "l.txt", labels)?)?;
+    files.push(file(alloc, "l.txt", labels.as_bytes())?)?;
     MemShelf::new(alloc, files, piece, List::from_vec(fails.to_vec(alloc)?))
 }
 
-fn words(alloc: Global, texts: &[&str]) -> Result<Vec<String>, NoMemory> {
+fn strings(alloc: Global, texts: &[&str]) -> Result<Vec<String>, NoMemory> {
     let mut words = Vec::new(alloc);
     for text in texts {
         words.push(String::from_str(alloc, text)?)?;
@@ -67,112 +49,125 @@ fn words(alloc: Global, texts: &[&str]) -> Result<Vec<String>, NoMemory> {
 // runs a call over files in memory, and gives its status and what it wrote
 fn run(
     alloc: Global,
-    netlist: &str,
+    netlist: &[u8],
     labels: &str,
     cycles: &str,
 ) -> Result<(Status, MemSink), NoMemory> {
-    let mut shelf = shelf(alloc, netlist, labels, 4096, &[])?;
+    let mut shelf = shelf_of(alloc, netlist, labels, 4096, &[])?;
     let mut sink = MemSink::new(alloc, 4096)?;
-    let words = words(alloc, &["n.json", "l.txt", cycles])?;
+    let words = strings(alloc, &["n.json", "l.txt", cycles])?;
     let status = check_run(alloc, words.as_slice(), &mut shelf, &mut sink);
     Ok((status, sink))
 }
 
+// runs a call over the rows of a netlist and shows that it ends with this status and writes this text
+fn assert_run(
+    rt: &(impl Abort + AllocGlobal),
+    rows: &str,
+    labels: &str,
+    cycles: &str,
+    want: (Status, &str),
+) -> Result<(), Fail> {
+    let netlist = json(rt.alloc(), rows)?;
+    let (status, sink) = run(rt.alloc(), netlist.as_slice(), labels, cycles)?;
+    assert_eq!(rt; status, want.0);
+    assert_eq!(rt; sink.bytes(), want.1.as_bytes());
+    Ok(())
+}
+
 #[test]
 fn a_share_in_one_register_is_accepted(rt: HostRuntime) -> Result<(), Fail> {
-    let cell = r#""c_q":{"type":"$_DFF_P_","connections":{"C":[2],"D":[3],"Q":[3]}}"#;
-    let text = netlist(rt.alloc(), &[cell], &["q"])?;
-    let (status, sink) = run(
-        rt.alloc(),
-        text.as_str(),
-        "clock clk\nsecret a 1 2\nreg q a.0\n",
+    let report = "accepted\norder 1\ncycles 1\nbits 1\nsecret bits 1\nlabels 2\n";
+    let labels = "clock clk\nsecret a 1 2\nreg q a.0\n";
+    assert_run(
+        &rt,
+        "q = FLOP(q)\n",
+        labels,
         "1",
-    )?;
-    assert_eq!(rt; status, Status::Accepted);
-    let report = b"accepted\norder 1\ncycles 1\nbits 1\nsecret bits 1\nlabels 2\n";
-    assert_eq!(rt; sink.bytes(), report.as_slice());
-    Ok(())
+        (Status::Accepted, report),
+    )
 }
 
 #[test]
 fn a_gate_over_both_shares_is_rejected(rt: HostRuntime) -> Result<(), Fail> {
-    let gate = r#","c_y":{"type":"$_XOR_","connections":{"A":[3],"B":[4],"Y":[5]}}"#;
-    let text = netlist(rt.alloc(), &[KEEP, gate], &["q0", "q1", "y"])?;
-    let (status, sink) = run(rt.alloc(), text.as_str(), KEPT, "1")?;
-    assert_eq!(rt; status, Status::Rejected);
-    let report =
-        b"rejected\norder 1\ncycles 1\nbits 3\nsecret bits 1\nlabels 2\nprobe y gate c_y cycle 0 pc - line -\nsees q0 cycle 0\nsees q1 cycle 0\nset a.0[0] a.1[0]\n";
-    assert_eq!(rt; sink.bytes(), report.as_slice());
-    Ok(())
+    let rows = format!(in rt.alloc(); "{KEEP}y = XOR(q0, q1)\n")?;
+    let report = "rejected\norder 1\ncycles 1\nbits 3\nsecret bits 1\nlabels 2\n\
+        probe y gate c_y cycle 0 pc - line -\n\
+        sees q0 cycle 0\nsees q1 cycle 0\nset a.0[0] a.1[0]\n";
+    assert_run(&rt, rows.as_str(), LABELS, "1", (Status::Rejected, report))
 }
 
 #[test]
 fn a_gate_over_a_share_and_a_mask_is_accepted(rt: HostRuntime) -> Result<(), Fail> {
-    let gate = r#","c_y":{"type":"$_XOR_","connections":{"A":[3],"B":[5],"Y":[6]}}"#;
-    let text = netlist(rt.alloc(), &[KEEP, MASK, gate], &["q0", "q1", "n", "y"])?;
-    let (status, sink) = run(rt.alloc(), text.as_str(), MASKED, "1")?;
-    assert_eq!(rt; status, Status::Accepted);
-    let report = b"accepted\norder 1\ncycles 1\nbits 4\nsecret bits 1\nlabels 3\n";
-    assert_eq!(rt; sink.bytes(), report.as_slice());
-    Ok(())
+    let rows = format!(in rt.alloc(); "{KEEP_MASKED}y = XOR(q0, n)\n")?;
+    let report = "accepted\norder 1\ncycles 1\nbits 4\nsecret bits 1\nlabels 3\n";
+    assert_run(
+        &rt,
+        rows.as_str(),
+        MASKED_LABELS,
+        "1",
+        (Status::Accepted, report),
+    )
 }
 
 #[test]
 fn glitches_show_what_a_gate_reaches(rt: HostRuntime) -> Result<(), Fail> {
-    let gates =
-        r#","c_w":{"type":"$_XOR_","connections":{"A":[3],"B":[5],"Y":[6]}},"c_y":{"type":"$_XOR_","connections":{"A":[6],"B":[4],"Y":[7]}}"#;
-    let text = netlist(
-        rt.alloc(),
-        &[KEEP, MASK, gates],
-        &["q0", "q1", "n", "w", "y"],
-    )?;
-    let (status, sink) = run(rt.alloc(), text.as_str(), MASKED, "1")?;
-    assert_eq!(rt; status, Status::Rejected);
-    let report =
-        b"rejected\norder 1\ncycles 1\nbits 5\nsecret bits 1\nlabels 3\nprobe y gate c_y cycle 0 pc - line -\nsees q0 cycle 0\nsees q1 cycle 0\nsees n cycle 0\nset a.0[0] a.1[0]\n";
-    assert_eq!(rt; sink.bytes(), report.as_slice());
-    Ok(())
+    let rows = format!(in rt.alloc(); "{KEEP_MASKED}w = XOR(q0, n)\ny = XOR(w, q1)\n")?;
+    let report = "rejected\norder 1\ncycles 1\nbits 5\nsecret bits 1\nlabels 3\n\
+        probe y gate c_y cycle 0 pc - line -\n\
+        sees q0 cycle 0\nsees q1 cycle 0\nsees n cycle 0\nset a.0[0] a.1[0]\n";
+    assert_run(
+        &rt,
+        rows.as_str(),
+        MASKED_LABELS,
+        "1",
+        (Status::Rejected, report),
+    )
 }
 
 #[test]
 fn a_register_keeps_the_cone_of_its_source(rt: HostRuntime) -> Result<(), Fail> {
-    let gates =
-        r#","c_w":{"type":"$_XOR_","connections":{"A":[3],"B":[5],"Y":[6]}},"c_r":{"type":"$_DFF_P_","connections":{"C":[2],"D":[6],"Q":[7]}},"c_y":{"type":"$_XOR_","connections":{"A":[7],"B":[4],"Y":[8]}}"#;
-    let text = netlist(
-        rt.alloc(),
-        &[KEEP, MASK, gates],
-        &["q0", "q1", "n", "w", "r", "y"],
+    let rows = format!(in rt.alloc();
+        "{KEEP_MASKED}w = XOR(q0, n)\nr = FLOP(w)\ny = XOR(r, q1)\n"
     )?;
-    let (status, _) = run(rt.alloc(), text.as_str(), MASKED, "1")?;
-    assert_eq!(rt; status, Status::Accepted);
-    let (status, sink) = run(rt.alloc(), text.as_str(), MASKED, "2")?;
-    assert_eq!(rt; status, Status::Rejected);
-    let report =
-        b"rejected\norder 1\ncycles 2\nbits 6\nsecret bits 1\nlabels 3\nprobe y gate c_y cycle 1 pc - line -\nsees q1 cycle 0\nsees r cycle 0\nsees q1 cycle 1\nsees r cycle 1\nset a.0[0] a.1[0]\n";
-    assert_eq!(rt; sink.bytes(), report.as_slice());
-    Ok(())
+    let first = "accepted\norder 1\ncycles 1\nbits 6\nsecret bits 1\nlabels 3\n";
+    assert_run(
+        &rt,
+        rows.as_str(),
+        MASKED_LABELS,
+        "1",
+        (Status::Accepted, first),
+    )?;
+    let second = "rejected\norder 1\ncycles 2\nbits 6\nsecret bits 1\nlabels 3\n\
+        probe y gate c_y cycle 1 pc - line -\n\
+        sees q1 cycle 0\nsees r cycle 0\nsees q1 cycle 1\nsees r cycle 1\nset a.0[0] a.1[0]\n";
+    assert_run(
+        &rt,
+        rows.as_str(),
+        MASKED_LABELS,
+        "2",
+        (Status::Rejected, second),
+    )
 }
 
 #[test]
-fn a_file_outside_the_form_is_refused(rt: HostRuntime) -> Result<(), Fail> {
-    let gate = r#""c_y":{"type":"$_OR_","connections":{"A":["0"],"B":["1"],"Y":[3]}}"#;
-    let text = netlist(rt.alloc(), &[gate], &["y"])?;
-    let (status, sink) = run(rt.alloc(), text.as_str(), "clock clk\n", "1")?;
-    assert_eq!(rt; status, Status::Refused);
-    assert_eq!(rt; sink.bytes(), b"refused 190 not built n.json\n".as_slice());
-    let (status, sink) = run(rt.alloc(), "{", "clock clk\n", "1")?;
+fn a_netlist_outside_the_form_is_refused(rt: HostRuntime) -> Result<(), Fail> {
+    let refusal = "refused 190 not built n.json\n";
+    assert_run(
+        &rt,
+        "y = OR(0, 1)\n",
+        LABELS,
+        "1",
+        (Status::Refused, refusal),
+    )?;
+    let (status, sink) = run(rt.alloc(), b"{", LABELS, "1")?;
     assert_eq!(rt; status, Status::Refused);
     assert_eq!(rt; sink.bytes(), b"refused 101 not JSON\n".as_slice());
-    let text = netlist(rt.alloc(), &[KEEP], &["q0", "q1"])?;
-    let (status, sink) = run(rt.alloc(), text.as_str(), "clock  clk\n", "1")?;
-    assert_eq!(rt; status, Status::Refused);
-    assert_eq!(rt; sink.bytes(), b"refused 190 not built l.txt\n".as_slice());
     Ok(())
 }
 
 #[test]
 fn label_lines_outside_the_form_are_refused(rt: HostRuntime) -> Result<(), Fail> {
-    let text = netlist(rt.alloc(), &[KEEP], &["q0", "q1"])?;
     let files = [
         "",
         "\n",
@@ -184,78 +179,66 @@ fn label_lines_outside_the_form_are_refused(rt: HostRuntime) -> Result<(), Fail>
         "clock clk\n\n",
         " clock clk\n",
         "clock clk \n",
+        "clock  clk\n",
         "clock\tclk\n",
         "clock clk\nsecret a 1 2\nreg q0 a.2\n",
         "clock clk\nreg q0 a.0\nsecret a 1 2\n",
     ];
+    let refusal = "refused 190 not built l.txt\n";
     for labels in files {
-        let (status, sink) = run(rt.alloc(), text.as_str(), labels, "1")?;
-        assert_eq!(rt; status, Status::Refused);
-        assert_eq!(rt; sink.bytes(), b"refused 190 not built l.txt\n".as_slice());
+        assert_run(&rt, KEEP, labels, "1", (Status::Refused, refusal))?;
     }
     Ok(())
 }
 
 #[test]
 fn at_most_64_labels_are_taken(rt: HostRuntime) -> Result<(), Fail> {
-    let text = netlist(rt.alloc(), &[KEEP], &["q0", "q1"])?;
     let mut labels = String::from_str(rt.alloc(), "clock clk\n")?;
     for mask in 0..64 {
         labels.push_str(format!(in rt.alloc(); "mask m{mask} 1\n")?.as_str())?;
     }
-    let (status, sink) = run(rt.alloc(), text.as_str(), labels.as_str(), "1")?;
-    assert_eq!(rt; status, Status::Accepted);
-    let report = b"accepted\norder 1\ncycles 1\nbits 2\nsecret bits 0\nlabels 64\n";
-    assert_eq!(rt; sink.bytes(), report.as_slice());
+    let report = "accepted\norder 1\ncycles 1\nbits 2\nsecret bits 0\nlabels 64\n";
+    assert_run(&rt, KEEP, labels.as_str(), "1", (Status::Accepted, report))?;
     labels.push_str("mask m64 1\n")?;
-    let (status, sink) = run(rt.alloc(), text.as_str(), labels.as_str(), "1")?;
-    assert_eq!(rt; status, Status::Refused);
-    assert_eq!(rt; sink.bytes(), b"refused 190 not built l.txt\n".as_slice());
-    Ok(())
+    let refusal = "refused 190 not built l.txt\n";
+    assert_run(&rt, KEEP, labels.as_str(), "1", (Status::Refused, refusal))
 }
 
 #[test]
 fn at_most_1024_cycles_are_taken(rt: HostRuntime) -> Result<(), Fail> {
-    let text = netlist(rt.alloc(), &[KEEP], &["q0", "q1"])?;
-    let (status, sink) = run(rt.alloc(), text.as_str(), KEPT, "1024")?;
-    assert_eq!(rt; status, Status::Accepted);
-    let report = b"accepted\norder 1\ncycles 1024\nbits 2\nsecret bits 1\nlabels 2\n";
-    assert_eq!(rt; sink.bytes(), report.as_slice());
-    let (status, sink) = run(rt.alloc(), text.as_str(), KEPT, "1025")?;
-    assert_eq!(rt; status, Status::Usage);
-    assert_eq!(rt; sink.bytes(), b"".as_slice());
-    Ok(())
+    let report = "accepted\norder 1\ncycles 1024\nbits 2\nsecret bits 1\nlabels 2\n";
+    assert_run(&rt, KEEP, LABELS, "1024", (Status::Accepted, report))?;
+    assert_run(&rt, KEEP, LABELS, "1025", (Status::Usage, ""))
 }
 
 #[test]
-fn a_fault_of_the_shelf_or_the_sink_is_answered(rt: HostRuntime) -> Result<(), Fail> {
-    let text = netlist(rt.alloc(), &[KEEP], &["q0", "q1"])?;
-    let call = words(rt.alloc(), &["n.json", "l.txt", "1"])?;
-    let mut failing = shelf(rt.alloc(), text.as_str(), KEPT, 16, &[1])?;
+fn a_fault_of_the_shelf_is_answered_with_the_name(rt: HostRuntime) -> Result<(), Fail> {
+    let netlist = json(rt.alloc(), KEEP)?;
+    let words = strings(rt.alloc(), &["n.json", "l.txt", "1"])?;
+    let mut shelf = shelf_of(rt.alloc(), netlist.as_slice(), LABELS, 16, &[1])?;
     let mut sink = MemSink::new(rt.alloc(), 4096)?;
-    assert_eq!(rt;
-        check_run(rt.alloc(), call.as_slice(), &mut failing, &mut sink),
-        Status::ReadFault
-    );
+    let status = check_run(rt.alloc(), words.as_slice(), &mut shelf, &mut sink);
+    assert_eq!(rt; status, Status::ReadFault);
     assert_eq!(rt; sink.bytes(), b"read fault n.json\n".as_slice());
-    let mut whole = shelf(rt.alloc(), text.as_str(), KEPT, 16, &[])?;
-    let mut small = MemSink::new(rt.alloc(), 10)?;
-    assert_eq!(rt;
-        check_run(rt.alloc(), call.as_slice(), &mut whole, &mut small),
-        Status::WriteFault
-    );
-    assert_eq!(rt; small.bytes(), b"accepted\no".as_slice());
-    let mut none = MemSink::new(rt.alloc(), 0)?;
-    assert_eq!(rt;
-        check_run(rt.alloc(), call.as_slice(), &mut whole, &mut none),
-        Status::WriteFault
-    );
-    assert_eq!(rt; none.bytes(), b"".as_slice());
     Ok(())
 }
 
 #[test]
-fn words_outside_the_grammar_are_refused(rt: HostRuntime) -> Result<(), Fail> {
+fn a_full_sink_has_the_front_of_the_report(rt: HostRuntime) -> Result<(), Fail> {
+    let netlist = json(rt.alloc(), KEEP)?;
+    let words = strings(rt.alloc(), &["n.json", "l.txt", "1"])?;
+    for (room, front) in [(10, "accepted\no"), (0, "")] {
+        let mut shelf = shelf_of(rt.alloc(), netlist.as_slice(), LABELS, 16, &[])?;
+        let mut sink = MemSink::new(rt.alloc(), room)?;
+        let status = check_run(rt.alloc(), words.as_slice(), &mut shelf, &mut sink);
+        assert_eq!(rt; status, Status::WriteFault);
+        assert_eq!(rt; sink.bytes(), front.as_bytes());
+    }
+    Ok(())
+}
+
+#[test]
+fn words_outside_the_grammar_are_no_call(rt: HostRuntime) -> Result<(), Fail> {
     let calls: [&[&str]; 8] = [
         &[],
         &["n.json", "l.txt"],
@@ -267,13 +250,11 @@ fn words_outside_the_grammar_are_refused(rt: HostRuntime) -> Result<(), Fail> {
         &["n.json", "l.txt", "00000000001"],
     ];
     for call in calls {
-        let mut shelf = shelf(rt.alloc(), "", "", 16, &[])?;
+        let mut shelf = shelf_of(rt.alloc(), b"", "", 16, &[])?;
         let mut sink = MemSink::new(rt.alloc(), 16)?;
-        let words = words(rt.alloc(), call)?;
-        assert_eq!(rt;
-            check_run(rt.alloc(), words.as_slice(), &mut shelf, &mut sink),
-            Status::Usage
-        );
+        let words = strings(rt.alloc(), call)?;
+        let status = check_run(rt.alloc(), words.as_slice(), &mut shelf, &mut sink);
+        assert_eq!(rt; status, Status::Usage);
         assert_eq!(rt; sink.bytes(), b"".as_slice());
     }
     Ok(())

@@ -5,7 +5,7 @@ use coco_base::NoMemory;
 use std::alloc::Global;
 
 /// The bytes of a text that is lent.
-pub fn copied(alloc: Global, text: &[u8]) -> Result<Vec<u8>, NoMemory>
+pub fn copy_of(alloc: Global, text: &[u8]) -> Result<Vec<u8>, NoMemory>
     ensures { IfOk result (λ v. v.items ≡ text.now) }
 {
     Ok(text.to_vec(alloc)?)
@@ -20,7 +20,7 @@ pub fn add(text: &mut Vec<u8>, bytes: &[u8]) -> Result<(), NoMemory>
 }
 
 /// A name as it is printed: each control character is a question mark.
-pub fn shown(alloc: Global, name: &[u8]) -> Result<Vec<u8>, NoMemory>
+pub fn printable(alloc: Global, name: &[u8]) -> Result<Vec<u8>, NoMemory>
     ensures { IfOk result (λ v. v.items ≡ printed name.now) }
 {
     Ok(
@@ -38,9 +38,9 @@ pub fn shown(alloc: Global, name: &[u8]) -> Result<Vec<u8>, NoMemory>
 pub fn line(alloc: Global, before: &[u8], name: &[u8], end: &[u8]) -> Result<Vec<u8>, NoMemory>
     ensures { IfOk result (λ v. v.items ≡ line_of before.now name.now end.now) }
 {
-    let mut text = copied(alloc, before)?;
-    let name = shown(alloc, name)?;
-    add(&mut text, name.as_slice())?;
+    let mut text = copy_of(alloc, before)?;
+    let printed = printable(alloc, name)?;
+    add(&mut text, printed.as_slice())?;
     add(&mut text, end)?;
     Ok(text)
 }

@@ -39,7 +39,7 @@ fn is_number(word: &str) -> bool
     1 <= count && count <= 10
 }
 
-fn value(word: &str) -> u64
+fn number_of(word: &str) -> u64
     requires digits { list_all is_ascii_digit word.now ≡ true }
     requires some { 1 ≤ length word.now }
     requires few { length word.now ≤ 10 }
@@ -48,20 +48,20 @@ fn value(word: &str) -> u64
     word.parse::<u64>().unwrap_or(0)
 }
 
-fn within(low: u64, high: u64, number: u64) -> bool
+fn is_within(low: u64, high: u64, number: u64) -> bool
     ensures { result ≡ is_within low high number }
 {
     low <= number && number <= high
 }
 
-fn cycles(word: &str) -> Option<u32>
+fn cycles_of(word: &str) -> Option<u32>
     ensures { result ≡ cycles_of word.now }
 {
     if !is_number(word) {
         return None;
     }
-    let number = value(word);
-    if within(1, MOST_CYCLES, number) {
+    let number = number_of(word);
+    if is_within(1, MOST_CYCLES, number) {
         Some(number as u32)
     } else {
         None
@@ -80,7 +80,7 @@ pub fn read_words(words: &[String]) -> Option<Request<'_>>
     if !is_name(netlist) || !is_name(labels) {
         return None;
     }
-    let cycles = cycles(count.as_str())?;
+    let cycles = cycles_of(count.as_str())?;
     Some(Request {
         netlist,
         labels,

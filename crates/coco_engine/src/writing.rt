@@ -18,6 +18,7 @@ pub fn write_whole<K: Sink>(out: &mut K, text: &[u8]) -> Result<(), Failed>
     ensures whole { OnOk result (K.taken out.new ≡ after (K.taken out.old) text.now) }
     ensures prefix { OnErr result (HasPrefix (K.taken out.old) (K.taken out.new) text.now) }
     ensures failed { OnErr result (Rose (K.faults out.old) (K.faults out.new)) }
+    ensures later { K.faults out.old ≤ K.faults out.new }
 {
     let mut done = 0;
     'writing: while done < text.len() {

@@ -12,5 +12,5 @@ returns-in_default c =
       secure = s.wide;
       narrow = s.narrow;
       in_time = s.in_time;
-      written = c.in_ok-accepted.ensures;
+      written = c.in_ok-accepted_report.ensures;
     }

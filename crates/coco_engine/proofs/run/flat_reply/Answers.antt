@@ -1,5 +1,5 @@
 use Rattle.coco_engine.proofs.SetupLemmas.{read_ready}
-use Rattle.coco_engine.proofs.run.judged_flat.Goals as goal
+use Rattle.coco_engine.proofs.run.flat_reply.Goals as goal
 
 pub verdict-requires-clause-ready : goal.verdict-requires-clause-ready
 verdict-requires-clause-ready c =

@@ -4,7 +4,7 @@ use Rattle.std.proofs.lemmas.Str.Parse.{digits_value_short, numerals_by_fold, pa
 use Rattle.std.specs.Char.{is_ascii_digit}
 use Rattle.std.specs.List.{list_all}
 use Rattle.coco_engine.specs.Words.{number_from, number_of}
-use Rattle.coco_engine.proofs.words.value.Goals as goal
+use Rattle.coco_engine.proofs.words.number_of.Goals as goal
 
 numerals : IsNumeralModel (λ (ds : List ℕ). list_all is_ascii_digit ds ≡ true) number_of
 numerals = numerals_by_fold _ (search rules) number_from (search rules)
