@@ -14,7 +14,7 @@ use Rattle.model_laws.proofs.Sources.{input_no_cell}
 use Rattle.gate_graph.specs.declared.driver.Driver.{Driver}
 use Rattle.gate_graph.specs.declared.driver.Driver.TheVariants.{Port, Cell, Flop, Nothing}
 use Rattle.gate_graph.specs.Drivers.{IsDriver, IsWired}
-use Rattle.gate_graph.specs.Clocks.{first_clock, IsClockWire, IsOffClock, HasClock, IsFirstMember}
+use Rattle.gate_graph.specs.Clocks.{first_clock, IsClockWire, IsOffClock, HasClock, IsFirstOf}
 use Rattle.gate_graph.proofs.LevelLemmas.{cell_bit}
 use Rattle.gate_graph.proofs.WiredLemmas.{port_input, driver_read}
 
@@ -32,7 +32,7 @@ no_input_by flat one bit Nothing is other input = is.no_input input
 
 -- the first member, found by going through the places
 pub first_at : {X : Type 0} (P : X → Type 0) (xs : List X) (place : ℕ) (x : X) → slice_get xs place ≡ Some x → P x
-    → ((k : ℕ) (y : X) → k < place → slice_get xs k ≡ Some y → P y → ⊥) → IsFirstMember P xs x
+    → ((k : ℕ) (y : X) → k < place → slice_get xs k ≡ Some y → P y → ⊥) → IsFirstOf P xs x
 first_at P xs place x at holds none = record {
   place = place;
   first = record { member = x; at = at; holds = holds; none_before = none };

@@ -52,7 +52,7 @@ IsGraphClock flat None = flat.flops ≡ []
 IsGraphClock flat (Some bit) = IsOneClock flat bit
 
 -- the first member of a list of which P holds
-pub record IsFirstMember {X : Type 0} (P : X → Type 0) (xs : List X) (x : X) : Type 0 where
+pub record IsFirstOf {X : Type 0} (P : X → Type 0) (xs : List X) (x : X) : Type 0 where
   pub place : ℕ
   pub first : IsFirstWith P xs place
   pub is : first.member ≡ x
@@ -62,9 +62,9 @@ pub record IsFirstMember {X : Type 0} (P : X → Type 0) (xs : List X) (x : X) :
 -- value
 pub data IsClockFault (flat : Flat) : List ℕ → Type 0 where
   second : (clock : Wire) (f : FlatFlop) → first_clock flat.flops ≡ Some clock
-      → IsFirstMember (IsOffClock flat clock) flat.flops f → IsClockFault flat f.name
+      → IsFirstOf (IsOffClock flat clock) flat.flops f → IsClockFault flat f.name
   cell : (bit : ℕ) (c : FlatCell) → HasClock flat bit
-      → IsFirstMember (λ (d : FlatCell). Contains (wires_of d) (Bit bit)) flat.cells c → IsClockFault flat c.name
+      → IsFirstOf (λ (d : FlatCell). Contains (wires_of d) (Bit bit)) flat.cells c → IsClockFault flat c.name
   flop : (bit : ℕ) (f : FlatFlop) → HasClock flat bit
       → ((c : FlatCell) → Contains flat.cells c → Contains (wires_of c) (Bit bit) → ⊥)
-      → IsFirstMember (λ (g : FlatFlop). ReadsAsValue g bit) flat.flops f → IsClockFault flat f.name
+      → IsFirstOf (λ (g : FlatFlop). ReadsAsValue g bit) flat.flops f → IsClockFault flat f.name

@@ -4,7 +4,7 @@ ghost use Rattle.coco_base.specs.declared.netlist.FlatCell.{FlatCell};
 ghost use Rattle.coco_base.specs.declared.netlist.FlatFlop.{FlatFlop};
 ghost use Rattle.coco_base.specs.declared.netlist.Wire.TheVariants.{Bit};
 ghost use Rattle.coco_model.specs.Netlist.{wires_of, IsWireBelow};
-ghost use Rattle.gate_graph.specs.Clocks.{IsGraphClock, IsClockFault, IsClockWire, IsFirstMember, IsInputWire, IsOffClock, ReadsAsValue};
+ghost use Rattle.gate_graph.specs.Clocks.{IsGraphClock, IsClockFault, IsClockWire, IsFirstOf, IsInputWire, IsOffClock, ReadsAsValue};
 ghost use Rattle.gate_graph.specs.Drivers.{IsWired};
 
 use crate::driver::Driver;
@@ -39,7 +39,7 @@ pub(crate) fn clock_of<'a>(flat: &'a Flat, drivers: &[Driver]) -> Result<Option<
 /// The first flop whose clock is not this one or is no input port bit.
 fn off_clock<'a>(flat: &'a Flat, drivers: &[Driver], clock: Wire) -> Option<&'a FlatFlop>
     requires { IsWired flat.now drivers.now }
-    ensures some { IfSome result (λ f. IsFirstMember (IsOffClock flat.now clock) flat.now.flops f.now) }
+    ensures some { IfSome result (λ f. IsFirstOf (IsOffClock flat.now clock) flat.now.flops f.now) }
     ensures none { IfNone result ((f : FlatFlop) → Contains flat.now.flops f → IsClockWire flat.now clock f.clock) }
 {
     let flops = flat.flops.as_slice();
@@ -77,7 +77,7 @@ fn is_input(flat: &Flat, drivers: &[Driver], wire: Wire) -> bool
 
 /// The first cell that reads a bit.
 fn reading_cell(cells: &[FlatCell], bit: u32) -> Option<&FlatCell>
-    ensures some { IfSome result (λ c. IsFirstMember (λ (d : FlatCell). Contains (wires_of d) (Bit bit)) cells.now c.now) }
+    ensures some { IfSome result (λ c. IsFirstOf (λ (d : FlatCell). Contains (wires_of d) (Bit bit)) cells.now c.now) }
     ensures none { IfNone result ((c : FlatCell) → Contains cells.now c → Contains (wires_of c) (Bit bit) → ⊥) }
 {
     'cells: for number in 0..cells.len() {
@@ -103,7 +103,7 @@ fn reads(cell: &FlatCell, bit: u32) -> bool
 
 /// The first flop that reads a bit as its next value or as its reset.
 fn reading_flop(flops: &[FlatFlop], bit: u32) -> Option<&FlatFlop>
-    ensures some { IfSome result (λ f. IsFirstMember (λ (g : FlatFlop). ReadsAsValue g bit) flops.now f.now) }
+    ensures some { IfSome result (λ f. IsFirstOf (λ (g : FlatFlop). ReadsAsValue g bit) flops.now f.now) }
     ensures none { IfNone result ((f : FlatFlop) → Contains flops.now f → ReadsAsValue f bit → ⊥) }
 {
     'flops: for number in 0..flops.len() {
