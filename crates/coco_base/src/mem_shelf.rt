@@ -112,7 +112,7 @@ fn content<'a>(files: &'a [MemFile], name: &str) -> Option<&'a [u8]>
     None
 }
 
-// copies at most so many bytes of a file, from a place on, to the head of a buffer
+// copies at most a number of bytes of a file, from a place on, to the head of a buffer
 fn copied(file: &[u8], at: u64, most: usize, into: &mut [u8]) -> usize
     ensures count { result ≡ piece_of most (length into.old) at file.now }
     ensures bytes { into.new ≡ take result (drop at file.now) ++ drop result into.old }

@@ -34,7 +34,7 @@ use Rattle.coco_model.specs.Findings.{Labels, IsSelection, IsFinding}
 use Rattle.coco_model.specs.Nodes.{node_number}
 use Rattle.coco_model.specs.WrittenFindings.{ProbedRun}
 
--- the signed sums of a gate at the subsets with the first numbers, so many
+-- the signed sums of a gate at the subsets with the first n numbers
 abbrev pub signed_sums : Kind → List Part → ℕ → List ℤ
 signed_sums kind parts count =
     map (λ number. signed_sum kind parts (subset_of_number (length parts) number)) (range_with_len 0 count)
@@ -89,7 +89,7 @@ abbrev pub one_register : Text → Flat
 one_register name =
     record { bits = 2; ports = input_port name 0 ∷ []; cells = []; flops = keeper name 1 ∷ []; nets = [] }
 
--- the labels of one secret of one bit in so many shares
+-- the labels of one secret of one bit in n shares
 abbrev pub one_secret : Text → ℕ → LabelTable
 one_secret name shares = record {
   secrets = record { name = name; width = 1; shares = shares; first = 0 } ∷ [];
@@ -195,7 +195,7 @@ setup_with_port name = record (example_setup name 1 [] []) { memories = memory_p
 abbrev pub control : Text → ℕ → When → ControlPlan
 control name bit when = record { name = name; wire = Bit bit; when = when }
 
--- so many wires of one constant
+-- n wires of one constant
 abbrev pub constants : ℕ → Bool → List Wire
 constants zero b = []
 constants (suc n) b = Const b ∷ constants n b

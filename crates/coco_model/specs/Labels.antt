@@ -19,7 +19,7 @@ abbrev pub choices : ℕ → List Choice
 choices zero = [] ∷ []
 choices (suc n) = map (λ (c : Choice). false ∷ c) (choices n) ++ map (λ (c : Choice). true ∷ c) (choices n)
 
--- the number of labels in a run of so many cycles: those declared, and in each cycle those of fresh masks
+-- the number of labels in a run of n cycles: those declared, and in each cycle those of fresh masks
 abbrev pub label_count : LabelTable → ℕ → ℕ
 label_count table cycles = table.declared + cycles * table.per_cycle
 

@@ -82,7 +82,7 @@ driven_bits flat =
 pub record HasOneDriver (flat : Flat) : Type 0 where
   pub once : HasNoRepeat (driven_bits flat)
 
--- a wire is a constant or a bit with a number below so many
+-- a wire is a constant or a bit with a number below a bound
 abbrev pub IsWireBelow : ℕ → Wire → Type 0
 IsWireBelow bits (Const b) = Unit {0}
 IsWireBelow bits (Bit n) = n < bits

@@ -9,13 +9,13 @@ use Rattle.coco_model.specs.Labels.{Choice, choices_with, secret_bit_count, same
 use Rattle.coco_model.specs.Run.{Memory, AreRuns, before}
 use Rattle.coco_model.specs.Reach.{Reach, IsReach, IsWideReach}
 
--- a probe of a run of so many bits and cycles: any bit but the clock, in one of the cycles
+-- a probe of a run, given its bits and cycles: any bit but the clock, in one of the cycles
 pub record IsProbe (bits : ℕ) (clock : Option ℕ) (cycles : ℕ) (probe : Probe) : Type 0 where
   pub bit : probe.bit < bits
   pub no_clock : clock ≢ Some probe.bit
   pub cycle : probe.cycle < cycles
 
--- the cycles of a probe's window: so many, from the probe's own on, cut at the end of the run
+-- the cycles of a probe's window: w cycles, from the probe's own on, cut at the end of the run
 abbrev pub window_cycles : ℕ → ℕ → ℕ → List ℕ
 window_cycles cycles window cycle = range_with_len cycle (min window (cycles - cycle))
 

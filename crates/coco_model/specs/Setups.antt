@@ -21,7 +21,7 @@ use Rattle.coco_model.specs.Labels.{IsLabelTable}
 use Rattle.coco_model.specs.Carried.{IsBound, IsLabelled, word_start}
 use Rattle.coco_model.specs.Controls.{HasControls, IsInRegion}
 
--- a time names one of so many memory ports
+-- a time names one of the memory ports, by a number below theirs
 abbrev pub IsWhenBelow : ℕ → When → Type 0
 IsWhenBelow memories Always = Unit {0}
 IsWhenBelow memories (Requested i) = i < memories

@@ -9,7 +9,7 @@ use Rattle.coco_base.specs.BitNames.{name_of_bit}
 use Rattle.coco_base.specs.declared.netlist.Flat.{Flat}
 use Rattle.gate_graph.specs.Drivers.{drivers_among, driver_name}
 
--- a place drives a bit below so many
+-- a place drives a bit below a bound
 pub record IsDriving (bits : ℕ) (place : Driving) : Type 0 where
   pub below : place.bit < bits
   pub some : place.driver ≢ Nothing

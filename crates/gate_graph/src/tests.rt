@@ -57,7 +57,7 @@ fn port(alloc: Global, name: &str, wires: &[Wire]) -> Result<FlatPort, NoMemory>
     })
 }
 
-/// A netlist of so many bits, without parts.
+/// A netlist of `bits` bits, without parts.
 fn empty(alloc: Global, bits: u32) -> Flat {
     Flat {
         bits,

@@ -101,7 +101,7 @@ fn has_labels(cones: &Cones, node: u32, labels: [bool; 3]) -> bool
     [cone.has(0), cone.has(1), cone.has(2)] == labels
 }
 
-// the cones of a run of so many nodes
+// the cones of a run of these nodes
 fn cones_of(alloc: Global, run: &Unrolled, nodes: usize, weight: u64) -> Result<Cones, ConeFault>
     ensures cones { IfOk result (λ c. length c.cones ≡ nodes) }
     ensures marks { IfOk result (λ c. length c.matters ≡ nodes) }

@@ -23,7 +23,7 @@ no_labels = record { secrets = []; masks = []; fresh = []; declared = 0; per_cyc
 abbrev pub empty : Reading
 empty = record { names = []; words = []; leaves = []; lines = []; table = no_labels }
 
--- the number of labels with so many more, which is at most a limit
+-- the number of labels with those added, which is at most a limit
 unfoldable pub labels_after : ℕ → ℕ → ℕ → Result ℕ Cause
 labels_after limit declared more =
     if nat_le (declared + more) limit then Ok (declared + more) else Err (TooMany (declared + more) limit)

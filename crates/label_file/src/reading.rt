@@ -21,7 +21,7 @@ pub(crate) struct Reading {
     pub(crate) table: LabelTable,
 }
 
-/// The number of labels with so many more.
+/// The number of labels with `more` added.
 #[tactic(auto, unfolding(crate::specs::Readings::labels_after))]
 fn labels_after(limit: u32, declared: u32, more: u64) -> Result<u32, Cause>
     requires { more ≤ 4294967295 * 4294967295 }

@@ -71,7 +71,7 @@ same_ascending (x ∷ xs) (y ∷ ys) up down there back =
         go (inl e) = absurd (apart e)
         go (inr i) = i
 
--- the ascending list of the numbers of which P holds, of so many from a number on
+-- the ascending list of the numbers of which P holds, of n numbers from one on
 pub record HasList (P : ℕ → Type 0) (first count : ℕ) : Type 0 where
   pub listed : List ℕ
   pub up : IsStrictlyIncreasing listed

@@ -61,7 +61,8 @@ abbrev pub reset_of : Reset → List ℕ → Option (Bool × Bool × List ℕ)
 reset_of NoReset text = Some (false, false, text)
 reset_of _ [] = None
 reset_of _ (l ∷ []) = None
-reset_of _ (l ∷ v ∷ rest) = option_and_then (λ level. option_map (λ value. (level, value, rest)) (value_of v)) (level_of l)
+reset_of _ (l ∷ v ∷ rest) =
+    option_and_then (λ level. option_map (λ value. (level, value, rest)) (value_of v)) (level_of l)
 
 -- the level of an enable, and the letters behind
 abbrev pub enable_of : Enable → List ℕ → Option (Bool × List ℕ)
@@ -72,10 +73,20 @@ enable_of _ (l ∷ rest) = option_map (λ level. (level, rest)) (level_of l)
 -- a flop of a form, from the letters behind the edge
 abbrev pub flop_with : Reset → Enable → Bool → Bool → Bool × List ℕ → Option FlopType
 flop_with reset enable level value e =
-    if bytes_eq e.1 (codes "_") then Some (record { reset = reset; reset_level = level; reset_value = value; enable = enable; enable_level = e.0 }) else None
+    if bytes_eq e.1 (codes "_")
+    then Some (record {
+      reset = reset;
+      reset_level = level;
+      reset_value = value;
+      enable = enable;
+      enable_level = e.0;
+    })
+    else None
 
 abbrev pub flop_in : Reset → Enable → List ℕ → Option FlopType
-flop_in reset enable text = option_and_then (λ r. option_and_then (flop_with reset enable r.0 r.1) (enable_of enable r.2)) (reset_of reset text)
+flop_in reset enable text =
+    option_and_then (λ r. option_and_then (flop_with reset enable r.0 r.1) (enable_of enable r.2))
+    (reset_of reset text)
 
 abbrev pub flop_of : Form → List ℕ → Option FlopType
 flop_of f text = option_and_then (flop_in f.reset f.enable) (letters_after f.prefix text)

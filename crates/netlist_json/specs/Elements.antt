@@ -93,7 +93,15 @@ nth place inputs = slice_index_or inputs place (Const false)
 
 abbrev pub register : List ℕ → FlopType → List Wire → ℕ → Register
 register name kind inputs output =
-    record { name = name; kind = kind; next = nth 0 inputs; clock = nth 1 inputs; enable = nth 2 inputs; reset = nth 3 inputs; output = output }
+    record {
+      name = name;
+      kind = kind;
+      next = nth 0 inputs;
+      clock = nth 1 inputs;
+      enable = nth 2 inputs;
+      reset = nth 3 inputs;
+      output = output;
+    }
 
 abbrev pub element : List ℕ → CellType → List Wire → ℕ → Element
 element name (types.Gate kind) inputs output = Gate (record { name = name; kind = kind; inputs = inputs; output = output })

@@ -112,9 +112,19 @@ mux_inputs false active idle control = active ∷ idle ∷ control ∷ Const fal
 -- an enabled flop takes the inner value and else keeps its own; a reset one takes the reset value and else the inner one
 abbrev pub mux_of : Register → MuxStep → Wire → ℕ → FlatCell
 mux_of r EnableMux inner bit =
-    record { name = r.name ++ codes ".e"; kind = Mux; inputs = mux_inputs r.kind.enable_level inner (Bit r.output) r.enable; output = bit }
+    record {
+      name = r.name ++ codes ".e";
+      kind = Mux;
+      output = bit;
+      inputs = mux_inputs r.kind.enable_level inner (Bit r.output) r.enable;
+    }
 mux_of r ResetMux inner bit =
-    record { name = r.name ++ codes ".r"; kind = Mux; inputs = mux_inputs r.kind.reset_level (Const r.kind.reset_value) inner r.reset; output = bit }
+    record {
+      name = r.name ++ codes ".r";
+      kind = Mux;
+      output = bit;
+      inputs = mux_inputs r.kind.reset_level (Const r.kind.reset_value) inner r.reset;
+    }
 
 abbrev pub muxes_of : Register → List MuxStep → Wire → ℕ → List FlatCell
 muxes_of r [] inner bit = []

@@ -65,7 +65,8 @@ port_bits direction d = option_and_then (λ wires. if may_have direction wires t
 abbrev pub port_of : List ℕ → Data → Result SourcePort NetFault
 port_of name d = do
   object ← or_shape (path_of (codes "ports") name []) (as_object d)
-  direction ← or_shape (path_of (codes "ports") name (codes "/direction")) (option_and_then direction_of (option_and_then as_str (get (codes "direction") d)))
+  direction ← or_shape (path_of (codes "ports") name (codes "/direction"))
+      (option_and_then direction_of (option_and_then as_str (get (codes "direction") d)))
   wires ← or_shape (path_of (codes "ports") name (codes "/bits")) (port_bits direction d)
   Ok (record { name = name; direction = direction; wires = wires })
 
@@ -80,7 +81,8 @@ abbrev pub cell_of : List ℕ → Data → Result SourceCell NetFault
 cell_of name d = do
   object ← or_shape (path_of (codes "cells") name []) (as_object d)
   kind ← or_shape (path_of (codes "cells") name (codes "/type")) (option_and_then as_str (get (codes "type") d))
-  ports ← or_shape (path_of (codes "cells") name (codes "/connections")) (option_and_then as_object (get (codes "connections") d))
+  ports ← or_shape (path_of (codes "cells") name (codes "/connections"))
+      (option_and_then as_object (get (codes "connections") d))
   connections ← each (connection_of name) ports
   Ok (record { name = name; kind = kind; connections = connections })
 

@@ -110,7 +110,8 @@ fn add_muxes(
     bit: u32,
 ) -> Result<(), NoMemory>
     requires { bit + length (mux_steps flop.now.kind) < 2 ^ 32 }
-    ensures { OnOk result (all.new.items ≡ all.old.items ++ muxes_of flop.now (mux_steps flop.now.kind) flop.now.next bit) }
+    ensures { OnOk result (all.new.items
+        ≡ all.old.items ++ muxes_of flop.now (mux_steps flop.now.kind) flop.now.next bit) }
 {
     let mut inner = flop.next;
     let mut next = bit;

@@ -42,7 +42,8 @@ fn add<T: Named + Drop>(
     items: Vec<T>,
     made: u8,
 ) -> Result<(), NoMemory>
-    ensures { OnOk result (map entry_of entries.new.entries ≡ fold put_entry (map entry_of entries.old.entries) (keyed T.name_of made items.items)) }
+    ensures { OnOk result (map entry_of entries.new.entries
+        ≡ fold put_entry (map entry_of entries.old.entries) (keyed T.name_of made items.items)) }
 {
     'items: for item in items {
         let name = item.name().to_string(alloc)?;

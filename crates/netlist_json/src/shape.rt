@@ -137,7 +137,8 @@ fn connection(alloc: Global, cell: &str, port: &str, value: &Value) -> Result<Fl
 }
 
 fn pin_shape(alloc: Global, cell: &str, port: &str) -> Result<NetFault, NoMemory>
-    ensures { IfOk result (λ fault. fault ≡ NetFault.Shape (path_of (codes "cells") cell.now (codes "/connections/" ++ port.now))) }
+    ensures { IfOk result (λ fault. fault
+        ≡ NetFault.Shape (path_of (codes "cells") cell.now (codes "/connections/" ++ port.now))) }
 {
     let path = Text::from_string(format!(in alloc; "cells/{cell}/connections/{port}")?);
     Ok(NetFault::Shape { path })

@@ -45,7 +45,7 @@ abbrev pub moved_in : Part → Place → ℕ → Place
 moved_in Text place count = record { part = Text; words = place.words + count; bytes = place.bytes }
 moved_in Data place count = record { part = Data; words = place.words; bytes = place.bytes + count }
 
--- the place so many words or bytes on, where there is room for them
+-- the place n words or bytes on, where there is room for them
 abbrev pub after_cells : Place → ℕ → Result Place Cause
 after_cells place count =
     if nat_le (used_in place.part place + count) most_cells then Ok (moved_in place.part place count) else Err Range
@@ -77,7 +77,7 @@ whole_content i = do
   word ← fit_word i
   Ok (Known (word ∷ []))
 
--- so many bytes are so many cells: in the text four to a word
+-- the cells that n bytes are: in the text four bytes to a word
 abbrev pub zero_count : Part → ℤ → Result ℕ Cause
 zero_count Text (pos n) = if n % 4 == 0 then Ok (n / 4) else Err Range
 zero_count Data (pos n) = Ok n

@@ -47,7 +47,7 @@ after_line layout number line = do
   effect ← line_effect layout.place layout.names line
   Ok (with_effect layout number effect)
 
--- the layout after lines, where so many lines stand before the first of them
+-- the layout after lines, where n lines stand before the first of them
 abbrev pub after_lines : Layout → ℕ → List (List ℕ) → Result Layout Cause
 after_lines layout before [] = Ok layout
 after_lines layout before (line ∷ more) = do

@@ -29,7 +29,7 @@ abbrev pub from_first : {A : Type 0} → List ℕ → (List ℕ → List A × Li
 from_first bytes onwards None = ([], bytes)
 from_first bytes onwards (Some first) = with_first first.0 (onwards first.1)
 
--- up to so many items at the front, one after the other, and what follows them
+-- up to n items at the front, one after the other, and what follows them
 abbrev pub items_up_to : {A : Type 0} → (List ℕ → Option (A × List ℕ)) → ℕ → List ℕ → List A × List ℕ
 items_up_to item zero bytes = ([], bytes)
 items_up_to item (suc n) bytes = from_first bytes (items_up_to item n) (item bytes)

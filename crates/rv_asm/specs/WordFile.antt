@@ -35,7 +35,7 @@ words_held Other = []
 abbrev pub words_on : List ℕ → List ℕ
 words_on line = words_held (word_line line)
 
--- the words of lines, in order, and for each word the number of its line, where so many lines stand before the first
+-- the words of lines, in order, and for each word the number of its line, where n lines stand before the first
 abbrev pub words_of : List (List ℕ) → List ℕ
 words_of [] = []
 words_of (line ∷ more) = words_on line ++ words_of more

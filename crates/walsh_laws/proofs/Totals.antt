@@ -1,4 +1,4 @@
--- Sums over all choices of so many bits.
+-- Sums over all choices of n bits.
 use Rattle.std.proofs.Common.{◌≡◌, ℕ, zero, suc, Bool, true, false, [], ◌∷◌, length, refl, ◌∙◌, ap, arith, ℤ, pos, negsuc, neg_ℤ, ◌+ℤ◌}
 use Rattle.std.proofs.lemmas.Int.{ints}
 use Rattle.coco_model.specs.Cells.{signed, sign_total}

@@ -31,7 +31,7 @@ pub record IsGateValue (labels : ℕ) (value : Choice → ℕ → Bool) (i : ℕ
   pub output : (choice : Choice) → length choice ≡ labels
       → value choice i ≡ output_of kind (input_values (value choice) (input_places kind parts) (input_places kind operands))
 
--- the value of node i under every choice of so many label bits: nothing has one value, a label its bit, a copy the
+-- the value of node i under every choice of n label bits: nothing has one value, a label its bit, a copy the
 -- value of an earlier node, and a gate its output for its inputs
 abbrev pub IsNodeValue : ℕ → (Choice → ℕ → Bool) → ℕ → Node → Type 0
 IsNodeValue labels value i Nothing = (b : Bool) × ((choice : Choice) → length choice ≡ labels → value choice i ≡ b)

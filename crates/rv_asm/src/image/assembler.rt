@@ -63,7 +63,7 @@ fn put_text(image: &mut Image, words: &[u32], line: u32) -> Result<(), NoMemory>
     Ok(())
 }
 
-// The data, with so many bytes of each word, the lowest first.
+// The data, with the first `count` bytes of each word, the lowest first.
 fn put_data(bytes: &mut Vec<u8>, words: &[u32], count: u64) -> Result<(), NoMemory>
     requires { count ≤ 4 }
     ensures { OnOk result (bytes.new.items ≡ bytes.old.items ++ stored_bytes count words.now) }

@@ -60,7 +60,7 @@ fn whole_content(alloc: Global, instr: Instr) -> Result<Content, Cause>
     Ok(Content::Known(words))
 }
 
-// How many cells of zeros so many bytes are.
+// How many cells of zeros a number of bytes is.
 fn zero_count(part: Part, bytes: i64) -> Result<u64, Cause>
     ensures { Answers (λ n. n) result (zero_count part bytes) }
 {

@@ -70,7 +70,7 @@ impl Names {
         Ok(())
     }
 
-    // Forgets all names but so many of the first.
+    // Forgets all names but the first `count`.
     pub(crate) fn truncate(&mut self, count: usize)
         ensures { self.new ≡ take count self.old }
     {

@@ -55,7 +55,7 @@ impl Place {
         }
     }
 
-    // The place so many words or bytes on.
+    // The place `count` words or bytes on.
     pub(crate) fn after_cells(self, count: u64) -> Result<Place, Cause>
         ensures { Answers (λ p. p) result (after_cells self count) }
     {

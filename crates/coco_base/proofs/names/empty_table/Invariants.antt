@@ -1,4 +1,4 @@
--- so many places, none of which names a bit
+-- as many places as asked for, none of which names a bit
 use Rattle.std.proofs.Common.{◌≡◌, None, replicate}
 use Rattle.coco_base.proofs.names.empty_table.Given as goal
 

@@ -1,4 +1,4 @@
--- the flops so far, and those of the flops that are left, are the flops of all; so many bits are left
+-- the flops so far, and those of the flops that are left, are the flops of all; the bits counted are left
 use Rattle.std.proofs.Common.{◌≡◌, ◌+◌, ◌++◌, drop, sum_by}
 use Rattle.netlist_json.specs.Flats.{all_flops, mux_count}
 use Rattle.netlist_json.proofs.muxes.flops.Given as goal

@@ -1,4 +1,4 @@
--- the muxes so far, and those of the flops that are left, are the muxes of all; so many bits are left
+-- the muxes so far, and those of the flops that are left, are the muxes of all; the bits counted are left
 use Rattle.std.proofs.Common.{◌≡◌, ◌+◌, ◌++◌, drop, sum_by}
 use Rattle.netlist_json.specs.Flats.{all_muxes, mux_count}
 use Rattle.netlist_json.proofs.muxes.muxes.Given as goal
