@@ -33,7 +33,8 @@ abbrev pub Covers : List Lit → List Lit → Type 0
 Covers lits clause = (v : ℕ) (sign : Bool) → sign_of clause v ≡ Some sign → is_some (sign_of lits v) ≡ true
 
 -- an analysis that has dealt with all places from the top on
-pub record IsWalked (clauses : List (List Lit)) (lits conflict : List Lit) (cuts : List Cut) (marks : List Bool) (start top count : ℕ) : Type 0 where
+pub record IsWalked (clauses : List (List Lit)) (lits conflict : List Lit) (cuts : List Cut) (marks : List Bool)
+    (start top count : ℕ) : Type 0 where
   pub within : top ≤ length lits
   pub below : (v : ℕ) → is_marked marks v ≡ true → is_some (sign_of (take top lits) v) ≡ true
   pub counted : count ≡ marked_from marks lits start
@@ -58,7 +59,8 @@ abbrev pub least_of : History → ℕ
 least_of h = cond (eqb (length h.starts) 0) 0 1
 
 -- the same, from the clause of a number
-pub record IsChained (clauses : List (List Lit)) (h : History) (first : ℕ) (cuts : List Cut) (marks : List Bool) (top count : ℕ) : Type 0 where
+pub record IsChained (clauses : List (List Lit)) (h : History) (first : ℕ) (cuts : List Cut) (marks : List Bool)
+    (top count : ℕ) : Type 0 where
   pub conflict : List Lit
   pub named : slice_get clauses first ≡ Some conflict
   pub walked : IsWalked clauses h.lits conflict cuts marks (level_start_of h) top count

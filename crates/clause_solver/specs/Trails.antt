@@ -29,7 +29,12 @@ shortened h n = record h { lits = take n h.lits; reasons = take n h.reasons }
 -- back to before the decision of a level
 abbrev pub undone : History → ℕ → History
 undone h level =
-    record { lits = take (slice_index h.starts level) h.lits; reasons = take (slice_index h.starts level) h.reasons; starts = take level h.starts; vars = h.vars }
+    record {
+      lits = take (slice_index h.starts level) h.lits;
+      reasons = take (slice_index h.starts level) h.reasons;
+      starts = take level h.starts;
+      vars = h.vars;
+    }
 
 -- the place of the last decision, and 0 where there is none
 abbrev pub level_start_of : History → ℕ
@@ -48,7 +53,8 @@ pub record IsCoherent (h : History) : Type 0 where
   pub reasons_len : length h.reasons ≡ length h.lits
 
 -- the tables by variable that a trail keeps say what its literals say
-pub record IsTabled (lits : List Lit) (reasons : List (Option ℕ)) (values : List (Option Bool)) (unset : List Bool) (places : List ℕ) : Type 0 where
+pub record IsTabled (lits : List Lit) (reasons : List (Option ℕ)) (values : List (Option Bool)) (unset : List Bool)
+    (places : List ℕ) : Type 0 where
   pub small : length values ≤ 2 ^ 30
   pub reasons_len : length reasons ≡ length lits
   pub unset_len : length unset ≡ length values

@@ -41,7 +41,8 @@ fn begin(
     requires len { length marks.old ≡ trail.now.vars }
     requires clear { All (λ b. b ≡ false) marks.old }
     requires start { start ≡ level_start_of trail.now }
-    ensures chained { IsChained (clauses_of store.now lines.now) trail.now id [] marks.new (length trail.now.lits) result }
+    ensures chained { let clauses = clauses_of store.now lines.now in
+        IsChained clauses trail.now id [] marks.new (length trail.now.lits) result }
     ensures len { length marks.new ≡ length marks.old }
 {
     match clause_at(store, lines, id) {
@@ -63,8 +64,10 @@ fn step_back(
     requires explained { IsExplained (clauses_of store.now lines.now) trail.now }
     requires len { length marks.old ≡ trail.now.vars }
     requires more { least_of trail.now < count }
-    requires chained { IsChained (clauses_of store.now lines.now) trail.now chain.old.first chain.old.cuts marks.old (place + 1) count }
-    ensures chained { IfOk result (IsChained (clauses_of store.now lines.now) trail.now chain.new.first chain.new.cuts marks.new place) }
+    requires chained { let clauses = clauses_of store.now lines.now in
+        IsChained clauses trail.now chain.old.first chain.old.cuts marks.old (place + 1) count }
+    ensures chained { let clauses = clauses_of store.now lines.now in
+        IfOk result (IsChained clauses trail.now chain.new.first chain.new.cuts marks.new place) }
     ensures first { chain.new.first ≡ chain.old.first }
     ensures len { length marks.new ≡ length marks.old }
 {

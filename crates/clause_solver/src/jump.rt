@@ -44,7 +44,8 @@ pub(crate) fn jump_back(trail: &mut Trail, clause: &[Lit])
     requires bounded { (k : ℕ) → k < length trail.old.starts → slice_index trail.old.starts k < length trail.old.lits }
     requires range { IsInRange trail.old.vars clause.now }
     requires analyzed { IsAnalyzed trail.old clause.now }
-    ensures explained { (clauses : List (List StoredLit)) → IsExplained clauses trail.old → IsExplained (clauses ++ clause.now ∷ []) trail.new }
+    ensures explained { (clauses : List (List StoredLit)) → IsExplained clauses trail.old
+        → IsExplained (clauses ++ clause.now ∷ []) trail.new }
     ensures vars { trail.new.vars ≡ trail.old.vars }
 {
     let kept = kept_places(trail, clause);

@@ -7,7 +7,6 @@
 #![tactic(auto)]
 
 mod analysis;
-mod filled;
 mod jump;
 pub mod laws;
 mod marks;

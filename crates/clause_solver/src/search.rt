@@ -24,7 +24,8 @@ fn next_unset(picker: &mut Box<dyn Picker>, trail: &Trail) -> Option<u32>
 fn decide(trail: &mut Trail, var: u32) -> Result<(), NoMemory>
     requires range { var < trail.old.vars }
     requires unset { sign_of trail.old.lits var ≡ None }
-    ensures explained { OnOk result ((clauses : List (List StoredLit)) → IsExplained clauses trail.old → IsClosed trail.old.lits clauses → IsExplained clauses trail.new) }
+    ensures explained { OnOk result ((clauses : List (List StoredLit)) → IsExplained clauses trail.old
+        → IsClosed trail.old.lits clauses → IsExplained clauses trail.new) }
     ensures vars { OnOk result (trail.new.vars ≡ trail.old.vars) }
     ensures longer { OnOk result (length trail.old.lits < length trail.new.lits) }
 {

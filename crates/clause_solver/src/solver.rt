@@ -4,7 +4,6 @@ ghost use Rattle.clause_solver.specs.Outcomes.{IsOutcome, CanBeSpent};
 ghost use Rattle.clause_solver.specs.Propagation.{IsOver};
 
 use crate::analysis::analyze;
-use crate::filled::filled;
 use crate::jump::jump_back;
 use crate::outcome::Outcome;
 use crate::search::search;
@@ -30,7 +29,8 @@ fn has_empty(store: &Store) -> bool
 /// The values of all variables; one that is not set is false.
 fn values_of(alloc: Global, trail: &Trail) -> Result<List<bool>, NoMemory>
     ensures len { IfOk result (λ values. length values ≡ trail.now.vars) }
-    ensures values { IfOk result (λ values. (v : ℕ) → v < trail.now.vars → slice_index_or values v false ≡ unwrap_or (sign_of trail.now.lits v) false) }
+    ensures values { IfOk result (λ values. (v : ℕ) → v < trail.now.vars
+        → slice_index_or values v false ≡ unwrap_or (sign_of trail.now.lits v) false) }
 {
     let mut values = List::new(alloc);
     'valuing: for var in 0..trail.vars() {
@@ -46,7 +46,7 @@ fn bump_cuts(picker: &mut Box<dyn Picker>, line: &Line) {
     }
 }
 
-/// Searches for values that meet every clause of the store, with at most so many lines of a derivation.
+/// Searches for values that meet every clause of the store, by a derivation of at most `steps` lines.
 ///
 /// Where nothing is left to propagate, the variable that the picker answers is set to false. The picker is told of each
 /// variable that is cut for a line that is not empty, and of no others, and is dropped at the end. One line counts as
@@ -71,7 +71,7 @@ pub fn solve(
         return Ok(Outcome::Derived(Derivation { lines }));
     }
     let mut trail = Trail::new(alloc, vars)?;
-    let mut marks = filled(alloc, vars, false)?;
+    let mut marks = vec![in alloc; false; vars as usize]?;
     'stepping: for _ in 0..steps {
         match search(&mut trail, store, lines.as_slice(), &mut picker)? {
             None => return Ok(Outcome::Satisfied(values_of(alloc, &trail)?)),

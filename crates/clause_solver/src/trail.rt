@@ -2,7 +2,6 @@ ghost use Rattle.std.specs.Prelude.{◌≡◌, ℕ, ◌+◌, ◌-◌, ◌<◌, �
 ghost use Rattle.clause_store.specs.Signs.{sign_of};
 ghost use Rattle.clause_solver.specs.Trails.{History, untouched, pushed, opened, shortened, undone, level_start_of, IsPlaceOf, IsCoherent};
 
-use crate::filled::filled;
 use clause_store::Lit;
 use coco_base::NoMemory;
 use std::alloc::Global;
@@ -37,9 +36,9 @@ impl Trail {
         requires { vars ≤ 2 ^ 30 }
         ensures { IfOk result (λ t. t ≡ untouched vars) }
     {
-        let values = filled(alloc, vars, None)?;
-        let unset = filled(alloc, vars, true)?;
-        let places = filled(alloc, vars, 0)?;
+        let values = vec![in alloc; None; vars as usize]?;
+        let unset = vec![in alloc; true; vars as usize]?;
+        let places = vec![in alloc; 0; vars as usize]?;
         Ok(Trail {
             lits: Vec::new(alloc),
             reasons: Vec::new(alloc),
@@ -102,7 +101,7 @@ impl Trail {
     pub(crate) fn unset(&self) -> &[bool]
         ensures len { length result.now ≡ self.now.vars }
         ensures small { self.now.vars ≤ 2 ^ 30 }
-        ensures unset { (v : ℕ) → v < self.now.vars → slice_get result.now v ≡ Some (is_none (sign_of self.now.lits v)) }
+        ensures free { (v : ℕ) → v < self.now.vars → slice_get result.now v ≡ Some (is_none (sign_of self.now.lits v)) }
     {
         self.unset.as_slice()
     }

@@ -13,7 +13,7 @@ abbrev pub AreEnds : ℕ → ℕ → List ℕ → Type 0
 AreEnds len start [] = start ≡ len
 AreEnds len start (end ∷ ends) = (start ≤ end) × AreEnds len end ends
 
--- at most so many clauses, and the variables of each ascend
+-- no more clauses than a list holds, and the variables of each ascend
 pub record IsArena (lits : List Lit) (ends : List ℕ) : Type 0 where
   pub cut : AreEnds (length lits) 0 ends
   pub few : length ends ≤ 2 ^ 31

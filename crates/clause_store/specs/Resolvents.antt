@@ -27,4 +27,5 @@ pub record IsResolvent (v : ℕ) (c d r : Signs) : Type 0 where
 abbrev pub LeadsTo : List (List Lit) → Signs → List Cut → Signs → Type 0
 LeadsTo clauses signs [] r = (v : ℕ) → signs v ≡ r v
 LeadsTo clauses signs (cut ∷ cuts) r =
-    (clause : List Lit) × (next : Signs) × (slice_get clauses cut.id ≡ Some clause) × IsResolvent cut.var signs (sign_of clause) next × LeadsTo clauses next cuts r
+    (clause : List Lit) × (next : Signs) × (slice_get clauses cut.id ≡ Some clause)
+    × IsResolvent cut.var signs (sign_of clause) next × LeadsTo clauses next cuts r

@@ -10,7 +10,7 @@ next_state x = (x * FACTOR + ADDEND) % 2 ^ 64
 abbrev pub open_count_of : List Bool → ℕ
 open_count_of unset = count_by (λ b. b) unset
 
--- the unset variable before which so many are unset
+-- the unset variable before which n are unset
 pub record IsNth (unset : List Bool) (number var : ℕ) : Type 0 where
   pub is_open : IsOpen unset var
   pub before : open_count_of (take var unset) ≡ number

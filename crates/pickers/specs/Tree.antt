@@ -28,7 +28,8 @@ AreLed numbers leaders = (node : ℕ) → 0 < node → LeadsNode numbers node (l
 -- the same, but for the node `at` and those above it
 abbrev pub AreLedBut : List ℕ → List ℕ → ℕ → Type 0
 AreLedBut numbers leaders at =
-    (node var : ℕ) → 0 < node → var < length numbers → IsUnder (length numbers + var) node → GoesFirst numbers (leader_of leaders node) var ⊎ IsUnder at node
+    (node var : ℕ) → 0 < node → var < length numbers → IsUnder (length numbers + var) node
+    → GoesFirst numbers (leader_of leaders node) var ⊎ IsUnder at node
 
 -- what was found goes before all variables under a node that are unset and have a number
 abbrev pub LeadsOpen : List ℕ → List Bool → ℕ → Option ℕ → Type 0

@@ -69,7 +69,7 @@ pub(crate) fn open_count(unset: &[bool]) -> usize
     count
 }
 
-/// The place that is true and before which so many are.
+/// The place that is true and before which `number` such places are.
 pub(crate) fn nth_open(unset: &[bool], number: usize) -> Option<u32>
     requires small { length unset.now ≤ 2 ^ 30 }
     requires fewer { number < open_count_of unset.now }

@@ -2,7 +2,7 @@ ghost use Rattle.std.specs.Prelude.{◌≡◌, ℕ, ◌<◌, ◌≤◌, ◌^◌,
 ghost use Rattle.pickers.specs.Choices.{AllAreSet, IsFirstOf};
 
 use crate::first::first_open;
-use crate::tree::{climb, filled, first_under, refresh};
+use crate::tree::{climb, first_under, refresh};
 use coco_base::NoMemory;
 use std::alloc::Global;
 use std::marker::Model;
@@ -31,8 +31,8 @@ impl Ranking {
     pub(crate) fn new(alloc: Global, size: u32) -> Result<Self, NoMemory>
         ensures { IfOk result (λ r. r ≡ replicate size 0) }
     {
-        let numbers = filled(alloc, size, 0)?;
-        let mut leaders = filled(alloc, size, 0)?;
+        let numbers = vec![in alloc; 0; size as usize]?;
+        let mut leaders = vec![in alloc; 0; size as usize]?;
         'building: for node in (1..size as usize).rev() {
             refresh(&numbers, &mut leaders, node);
         }

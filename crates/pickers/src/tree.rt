@@ -1,26 +1,8 @@
 ghost use Rattle.std.specs.Prelude.{◌≡◌, ℕ, ◌+◌, ◌*◌, ◌<◌, ◌≤◌, ◌^◌, ◌↔◌, List, length, All, IsTrue, IfOk, IfSome, MatchBool, slice_set};
-ghost use Rattle.std.specs.Prelude.{replicate};
 ghost use Rattle.pickers.specs.Choices.{GoesFirst, IsOpen, Beats, IsFound};
 ghost use Rattle.pickers.specs.Tree.{leader_of, IsUnder, AreLed, AreLedBut, IsRefreshed, LeadsOpen};
 
 use crate::first::is_open;
-use coco_base::NoMemory;
-use std::alloc::Global;
-
-/// A list of one value, again and again.
-pub(crate) fn filled<T: Copy + Drop>(
-    alloc: Global,
-    count: u32,
-    value: T,
-) -> Result<Vec<T>, NoMemory>
-    ensures { IfOk result (λ v. v.items ≡ replicate count value) }
-{
-    let mut items = Vec::with_capacity(alloc, count as usize)?;
-    'filling: for _ in 0..count {
-        items.push(value)?;
-    }
-    Ok(items)
-}
 
 fn goes_first(numbers: &[u64], a: u32, b: u32) -> bool
     requires one { a < length numbers.now }

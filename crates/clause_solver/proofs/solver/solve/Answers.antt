@@ -13,7 +13,7 @@ pub stepping-init : goal.stepping-init
 stepping-init g c =
     let ready = ready_new c.args.store.now c.args.vars c.has_empty.ensures.ascending c.requires.range c.requires.vars c.if-has_empty.ensures.found in
     record {
-      ready = rw (c.new-lines.ensures, c.in_ok-trail.ensures, c.in_ok-marks.ensures) ready;
+      ready = rw (c.new-lines.ensures, c.in_ok-trail.ensures, c.in_ok-marks.ensures.items_if_clones_equal (λ y same. same)) ready;
       count = ap length c.new-lines.ensures;
       vars = rw c.in_ok-trail.ensures refl;
     }
