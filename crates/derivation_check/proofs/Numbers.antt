@@ -1,5 +1,13 @@
 -- Numbers written in decimal, with a byte behind them that is no digit.
-use Rattle.std.proofs.Common.{◌≡◌, ℕ, suc, zero, ◌+◌, ◌<◌, ◌≤◌, List, [], ◌∷◌, ◌++◌, length, get_or, take, decimal, eqb, false, sym, ◌∙◌, ap, inl, inr, arith}
+use Rattle.std.proofs.Common.{◌≡◌, ℕ, suc, zero, ◌+◌, ◌<◌, ◌≤◌, List, [], ◌∷◌, ◌++◌, length, get_or, take, decimal, eqb, Bool, true, false, cond, Ok, Err, refl, sym, ◌∙◌, ap, inl, inr, arith}
+use Rattle.std.specs.Prelude.{nat_le, nat_lt}
+use Rattle.std.specs.Char.{digit_value}
+use Rattle.std.specs.List.{list_all}
+use Rattle.std.proofs.lemmas.Str.{digit_value_digit}
+use Rattle.std.proofs.lemmas.Bool.Decides.{nat_tests}
+use Rattle.coco_base.specs.declared.number.NumberFault.{NumberFault}
+use Rattle.coco_base.specs.declared.number.NumberFault.TheVariants.{TooLarge}
+use Rattle.coco_base.specs.Numbers.{are_digits, number_of, within}
 use Rattle.std.specs.Str.Parse.{digits_value}
 use Rattle.std.proofs.lemmas.Str.Parse.{IsNumeralModel, numerals_by_value, tells_by_index, digits_value_short}
 use Rattle.std.proofs.lemmas.Fmt.{decimal_nonempty, decimal_digit, first_decimal, length-decimal-le, digits_decimal, digits_value-decimal, decimal-digits_value}
@@ -80,3 +88,49 @@ front_digits bytes len le digits = λ k lt.
     let n : length (take len bytes) ≡ len = grind (arith, common_steps) in
     let e : get_or (take len bytes) k 0 ≡ get_or bytes k 0 = grind (arith, common_steps) in
     rw e (digits k (omega arith))
+
+-- decimal digits are digits of the radix 10
+digits_pass : (bytes : List ℕ) → AreDigits bytes → list_all (λ d. nat_lt (digit_value d) 10) bytes ≡ true
+digits_pass [] digits = refl
+digits_pass (b ∷ bytes) digits =
+    let parts = tells_by_index.parts b bytes digits in
+    let value : digit_value b + 48 ≡ b = digit_value_digit b parts.0 in
+    let high : b ≤ 57 = parts.0.1 in
+    let low : nat_lt (digit_value b) 10 ≡ true = grind (arith, nat_tests) in
+    rw (low, digits_pass bytes parts.1) refl
+
+of_ten : (bytes : List ℕ) → 0 < length bytes → AreDigits bytes → are_digits 10 bytes ≡ true
+of_ten [] some digits = absurd (omega arith)
+of_ten (b ∷ bytes) some digits = digits_pass (b ∷ bytes) digits
+
+cond_ok : (b : Bool) (fault : NumberFault) (k n : ℕ) → cond b (Ok k) (Err fault) ≡ Ok n → (b ≡ true) × (k ≡ n)
+cond_ok true fault k n e = (refl, cc)
+cond_ok false fault k n e = cc
+
+cond_err : (b : Bool) (large fault : NumberFault) (k : ℕ) → cond b (Ok k) (Err large) ≡ Err fault → b ≡ false
+cond_err true large fault k e = cc
+cond_err false large fault k e = refl
+
+-- a number that is read has a digit
+pub number_some : (most n : ℕ) (bytes : List ℕ) → number_of 10 most bytes ≡ Ok n → 0 < length bytes
+number_some most n [] e = cc
+number_some most n (b ∷ bytes) e = omega arith
+
+-- a number that is read is the value of its digits, and not past the greatest one
+pub number_read : (most n : ℕ) (bytes : List ℕ) → AreDigits bytes → 0 < length bytes →
+    number_of 10 most bytes ≡ Ok n → (digits_value 10 bytes ≡ n) × (n ≤ most)
+number_read most n bytes digits some e =
+    let inside : within most (digits_value 10 bytes) ≡ Ok n = rw (of_ten bytes some digits) at e in
+    let parts = cond_ok (nat_le (digits_value 10 bytes) most) TooLarge (digits_value 10 bytes) n inside in
+    let le : nat_le (digits_value 10 bytes) most ≡ true = parts.0 in
+    let same : digits_value 10 bytes ≡ n = parts.1 in
+    (same, grind (arith, nat_tests))
+
+-- where none is read, the value of the digits is past the greatest one
+pub number_missed : (most : ℕ) (fault : NumberFault) (bytes : List ℕ) → AreDigits bytes → 0 < length bytes →
+    number_of 10 most bytes ≡ Err fault → most < digits_value 10 bytes
+number_missed most fault bytes digits some e =
+    let inside : within most (digits_value 10 bytes) ≡ Err fault = rw (of_ten bytes some digits) at e in
+    let past : nat_le (digits_value 10 bytes) most ≡ false =
+    cond_err (nat_le (digits_value 10 bytes) most) TooLarge fault (digits_value 10 bytes) inside in
+    grind (arith, nat_tests)

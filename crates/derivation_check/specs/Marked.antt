@@ -18,7 +18,7 @@ marked_count (m ∷ marks) = cond (is_some m) 1 0 + marked_count marks
 abbrev pub IsClear : List (Option Bool) → Type 0
 IsClear marks = All (λ m. m ≡ None) marks
 
--- every variable of the clause has a place among so many marks
+-- every variable of the clause has a place among n marks
 abbrev pub IsWithin : ℕ → List Lit → Type 0
 IsWithin size clause = (v : ℕ) → size ≤ v → sign_of clause v ≡ None
 

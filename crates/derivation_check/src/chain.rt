@@ -46,7 +46,7 @@ fn are_opposite(a: Option<bool>, b: Option<bool>) -> bool
 fn merge_lit(marks: &mut Marks, lit: Lit) -> bool
     requires { lit.var < length marks.old }
     ensures answer { result ≡ not (opposite (signs_in marks.old lit.var) (Some lit.positive)) }
-    ensures merged { marks.new ≡ slice_set marks.old lit.var (option_or (signs_in marks.old lit.var) (Some lit.positive)) }
+    ensures set { marks.new ≡ slice_set marks.old lit.var (option_or (signs_in marks.old lit.var) (Some lit.positive)) }
 {
     match marks.sign(lit.var) {
         Some(sign) => sign == lit.positive,
@@ -78,7 +78,8 @@ pub(crate) fn resolve(marks: &mut Marks, clause: &[Lit], var: u32) -> bool
     requires ascending { Ascends clause.now }
     requires within { IsWithin (length marks.old) clause.now }
     ensures size { length marks.new ≡ length marks.old }
-    ensures resolvent { MatchBool result (IsResolvent var (signs_in marks.old) (sign_of clause.now) (signs_in marks.new))
+    ensures resolvent { MatchBool result
+        (IsResolvent var (signs_in marks.old) (sign_of clause.now) (signs_in marks.new))
         ((r : Signs) → IsResolvent var (signs_in marks.old) (sign_of clause.now) r → ⊥) }
 {
     if !are_opposite(marks.sign(var), sign_in(clause, var)) {
@@ -96,7 +97,8 @@ fn cut_once(marks: &mut Marks, store: &Store, lines: &[Line], cut: Cut) -> bool
     requires ascending { All Ascends (clauses_of store.now lines.now) }
     requires within { All (IsWithin (length marks.old)) (clauses_of store.now lines.now) }
     ensures size { length marks.new ≡ length marks.old }
-    ensures cut { MatchBool result (IsCut (clauses_of store.now lines.now) cut (signs_in marks.old) (signs_in marks.new))
+    ensures cut { MatchBool result
+        (IsCut (clauses_of store.now lines.now) cut (signs_in marks.old) (signs_in marks.new))
         ((r : Signs) → IsCut (clauses_of store.now lines.now) cut (signs_in marks.old) r → ⊥) }
 {
     match clause_at(store, lines, cut.id) {

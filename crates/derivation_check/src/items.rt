@@ -47,7 +47,7 @@ fn read_lit(reader: &mut Reader) -> Option<Lit>
 
 fn read_cut(reader: &mut Reader) -> Option<Cut>
     ensures some { IfSome result (λ cut. IsCutInRange cut × (reader.old ≡ cut_text cut ++ reader.new)) }
-    ensures none { IfNone result ((cut : Cut) (more : List ℕ) → IsCutInRange cut → reader.old ≡ cut_text cut ++ more → ⊥) }
+    ensures none { IfNone result ((c : Cut) (more : List ℕ) → IsCutInRange c → reader.old ≡ cut_text c ++ more → ⊥) }
 {
     let Some(var) = read_index(reader) else {
         return None;
@@ -98,7 +98,7 @@ fn read_cuts(alloc: Global, reader: &mut Reader) -> Result<Option<List<Cut>>, No
 
 /// Reads a line of a derivation, or tells that there is none.
 pub(crate) fn read_line(alloc: Global, reader: &mut Reader) -> Result<Option<Line>, NoMemory>
-    ensures some { IfOk result (λ o. IfSome o (λ line. IsPrintable line × (reader.old ≡ line_text line ++ reader.new))) }
+    ensures some { IfOk result (λ o. IfSome o (λ l. IsPrintable l × (reader.old ≡ line_text l ++ reader.new))) }
     ensures none { IfOk result (λ o. IfNone o ((line : Line) (more : List ℕ) → IsPrintable line →
         reader.old ≡ line_text line ++ more → ⊥)) }
 {

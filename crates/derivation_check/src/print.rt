@@ -53,7 +53,7 @@ fn push_line(text: &mut String, line: &Line) -> Result<(), NoMemory>
     Ok(())
 }
 
-/// The clauses of a store over so many variables as a formula in the DIMACS format: `p cnf VARIABLES CLAUSES` and a
+/// The clauses of a store over `vars` variables as a formula in the DIMACS format: `p cnf VARIABLES CLAUSES` and a
 /// line for each clause, its literals and `0` with single spaces between. Variable `v` is printed as `v + 1`.
 pub fn print_formula(alloc: Global, store: &Store, vars: u32) -> Result<Vec<u8>, NoMemory>
     ensures { IfOk result (λ text. text.items ≡ formula_text store.now vars) }

@@ -1,7 +1,7 @@
 ghost use Rattle.std.specs.Prelude.{◌≡◌, ℕ, ◌<◌, ◌≤◌, ◌++◌, ◌∷◌, [], List, MatchBool, MatchOption, IfSome, IfNone, length, decimal, IsTrue, ◌↔◌, slice_index};
-ghost use Rattle.std.specs.Str.Parse.{digits_value};
 ghost use Rattle.derivation_check.specs.Texts.{AreDigits};
 
+use coco_base::number_of;
 use std::marker::Model;
 
 /// The greatest number of a proof text.
@@ -70,7 +70,7 @@ impl<'a> Reader<'a> {
     pub(crate) fn number(&mut self, end: u8) -> Option<u32>
         requires { end < 48 }
         ensures some { IfSome result (λ n. (n ≤ 2147483647) × (self.old ≡ decimal n ++ end ∷ self.new)) }
-        ensures none { IfNone result ((n : ℕ) (more : List ℕ) → n ≤ 2147483647 → self.old ≡ decimal n ++ end ∷ more → ⊥) }
+        ensures none { IfNone result ((n : ℕ) (ms : List ℕ) → n ≤ 2147483647 → self.old ≡ decimal n ++ end ∷ ms → ⊥) }
     {
         let len = digits_len(self.rest);
         if len == self.rest.len() {
@@ -110,31 +110,11 @@ fn value_of(digits: &[u8]) -> Option<u32>
     ensures some { IfSome result (λ n. (n ≤ 2147483647) × (digits.now ≡ decimal n)) }
     ensures none { IfNone result ((n : ℕ) → n ≤ 2147483647 → digits.now ≡ decimal n → ⊥) }
 {
-    if digits.is_empty() {
-        return None;
-    }
-    if digits.len() > 10 {
-        return None;
-    }
     if digits.len() > 1 && digits[0] == b'0' {
         return None;
     }
-    let value = sum_of(digits);
-    if value > GREATEST {
-        return None;
+    match number_of(digits, 10, GREATEST) {
+        Ok(value) => Some(value as u32),
+        Err(_) => None,
     }
-    Some(value as u32)
-}
-
-/// The number that at most ten digits write.
-fn sum_of(digits: &[u8]) -> u64
-    requires digits { AreDigits digits.now }
-    requires short { length digits.now ≤ 10 }
-    ensures { result ≡ digits_value 10 digits.now }
-{
-    let mut value = 0;
-    'adding: for digit in digits {
-        value = value * 10 + u64::from(*digit - b'0');
-    }
-    value
 }

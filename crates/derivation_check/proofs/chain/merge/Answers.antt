@@ -42,7 +42,7 @@ merging-preserved c =
       | else-lit-var-via-then-lit-var+else-not-merge_lit w ↦
           let answer : true ≡ not (opposite (signs_in c.merging.marks l.var) (Some l.positive)) = w.if-not-merge_lit.ensures.answer in
           let fits : opposite (signs_in c.merging.marks l.var) (Some l.positive) ≡ false = not_true (opposite (signs_in c.merging.marks l.var) (Some l.positive)) (sym answer) in
-          let new : c.else-lit-var.marks ≡ set c.merging.marks l.var (option_or (signs_in c.merging.marks l.var) (Some l.positive)) = w.marks-is ∙ w.merge_lit.ensures.merged in
+          let new : c.else-lit-var.marks ≡ set c.merging.marks l.var (option_or (signs_in c.merging.marks l.var) (Some l.positive)) = w.marks-is ∙ w.merge_lit.ensures.set in
           record {
             size = ap length new ∙ length-set c.merging.marks l.var (option_or (signs_in c.merging.marks l.var) (Some l.positive)) ∙ n;
             merged = rw (new, front) (merged_more c.args.var (signs_in c.args.marks.now) c.merging.marks (take c.merging.lit-index c.args.clause.now) l (omega arith) w.if-lit-var.true before fits c.merging.invariant.merged);
