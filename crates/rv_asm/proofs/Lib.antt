@@ -8,3 +8,4 @@ mod DemandLemmas
 mod LayoutLemmas
 mod PlacedLemmas
 mod RoomLemmas
+mod LawLemmas

@@ -17,3 +17,4 @@ pub mod Values
 pub mod Demands
 pub mod Layouts
 pub mod Programs
+pub mod Laws

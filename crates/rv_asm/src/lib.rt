@@ -3,6 +3,7 @@
 
 mod fault;
 mod image;
+mod laws;
 mod layout;
 mod line;
 mod lists;
@@ -13,3 +14,4 @@ pub use fault::AsmFault;
 pub use image::Image;
 pub use image::assembler::assemble;
 pub use image::word_file::read_words;
+pub use laws::numbers_are_put_law;
