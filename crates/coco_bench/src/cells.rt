@@ -5,7 +5,7 @@ const KINDS: [Kind; 4] = [Kind::And, Kind::Xor, Kind::Mux, Kind::Aoi4];
 
 const PARTS: [Part; 3] = [Part::Vary, Part::Zero, Part::One];
 
-/// How many of so many cells have an unknown output and a live second input, over kinds and parts in turn.
+/// How many of `count` cells have an unknown output and a live second input, over kinds and parts in turn.
 pub(crate) fn tally(count: u32) -> u32 {
     let mut live_inputs = 0u32;
     for cell in 0..count {

@@ -3,8 +3,8 @@ use clause_store::{Lit, Store};
 use coco_base::NoMemory;
 use std::alloc::Global;
 
-/// The formula of a text in the DIMACS form, one clause a line: numbers of literals and a 0. Lines that begin with `c` or
-/// `p` say nothing here, and words that are no numbers end a clause.
+/// The formula of a text in the DIMACS form, one clause a line: numbers of literals and a 0. Lines that begin with `c`
+/// or `p` say nothing here, and words that are no numbers end a clause.
 pub(crate) fn read(alloc: Global, text: &str) -> Result<Formula, NoMemory> {
     let mut store = Store::new(alloc);
     let mut vars = 0u32;

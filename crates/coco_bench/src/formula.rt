@@ -23,7 +23,7 @@ pub(crate) fn pigeonholes(alloc: Global, holes: u32) -> Result<Formula, NoMemory
     for pigeon in 0..=holes {
         let mut somewhere = Vec::new(alloc);
         for hole in 0..holes {
-            somewhere.push(sits(pigeon, hole, holes, true))?;
+            somewhere.push(seat_literal(pigeon, hole, holes, true))?;
         }
         add(&mut store, somewhere.as_slice())?;
     }
@@ -38,15 +38,16 @@ pub(crate) fn pigeonholes(alloc: Global, holes: u32) -> Result<Formula, NoMemory
 fn add_alone(store: &mut Store, hole: u32, holes: u32) -> Result<(), NoMemory> {
     for second in 1..=holes {
         for first in 0..second {
-            let one = sits(first, hole, holes, false);
-            let other = sits(second, hole, holes, false);
+            let one = seat_literal(first, hole, holes, false);
+            let other = seat_literal(second, hole, holes, false);
             add(store, &[one, other])?;
         }
     }
     Ok(())
 }
 
-fn sits(pigeon: u32, hole: u32, holes: u32, positive: bool) -> Lit {
+// the literal that a pigeon sits in a hole, or does not
+fn seat_literal(pigeon: u32, hole: u32, holes: u32, positive: bool) -> Lit {
     Lit {
         var: pigeon.saturating_mul(holes).saturating_add(hole),
         positive,
@@ -66,14 +67,14 @@ pub(crate) fn random(alloc: Global, vars: u32, seed: u64) -> Result<Formula, NoM
             *var = (state >> 33).checked_rem(u64::from(vars)).unwrap_or(0) as u32;
         }
         if store.count() < clauses {
-            add(&mut store, &in_order(drawn, state))?;
+            add(&mut store, &clause_of(drawn, state))?;
         }
     }
     Ok(Formula { store, vars })
 }
 
 /// Literals of these variables in ascending order, their signs taken from a number.
-fn in_order(drawn: [u32; 3], signs: u64) -> [Lit; 3] {
+fn clause_of(drawn: [u32; 3], signs: u64) -> [Lit; 3] {
     let least = drawn[0].min(drawn[1]).min(drawn[2]);
     let most = drawn[0].max(drawn[1]).max(drawn[2]);
     let middle = drawn[0] ^ drawn[1] ^ drawn[2] ^ least ^ most;

@@ -4,6 +4,7 @@
 mod cells;
 mod dimacs;
 mod formula;
+mod inverters;
 mod solving;
 #[cfg(test)]
 mod tests;
@@ -16,13 +17,16 @@ use std::process::ExitCode;
 use std::rt::Files;
 use std::{fs, io};
 
-const USAGE: &str = "coco_bench cells COUNT | pigeonholes HOLES | random VARS SEED | formula FILE";
+const USAGE: &str =
+    "coco_bench cells COUNT | inverters COUNT | pigeonholes HOLES | random VARS SEED | formula FILE";
 
 /// What is to be done.
 #[derive(Drop)]
 enum Work {
-    /// So many calls of the cell table.
+    /// This number of calls of the cell table.
     Cells(u32),
+    /// A graph of this number of inverters in a chain.
+    Inverters(u32),
     /// A formula to solve.
     Solve(Formula),
 }
@@ -34,56 +38,74 @@ fn number(word: &str) -> io::Result<u32> {
     }
 }
 
-fn held<T>(answer: Result<T, NoMemory>) -> io::Result<T> {
+// want of memory as an error of the program
+fn with_io<T>(answer: Result<T, NoMemory>) -> io::Result<T> {
     match answer {
         Ok(value) => Ok(value),
         Err(NoMemory) => Err(io::ErrorKind::OutOfMemory.into()),
     }
 }
 
-fn asked(rt: &(impl Env + Files + AllocGlobal)) -> io::Result<Work> {
+// the work that the words name
+fn read_work(rt: &(impl Env + Files + AllocGlobal)) -> io::Result<Work> {
     let alloc: Global = rt.alloc();
     let mut words = env::args(rt)?.skip(1);
     let kind = words.next().unwrap_or(String::new(alloc));
     let word = words.next().unwrap_or(String::new(alloc));
     match kind.as_str() {
         "cells" => Ok(Work::Cells(number(word.as_str())?)),
-        "pigeonholes" => Ok(Work::Solve(held(formula::pigeonholes(
+        "inverters" => Ok(Work::Inverters(number(word.as_str())?)),
+        "pigeonholes" => Ok(Work::Solve(with_io(formula::pigeonholes(
             alloc,
             number(word.as_str())?,
         ))?)),
         "random" => {
             let seed = words.next().unwrap_or(String::new(alloc));
             let vars = number(word.as_str())?;
-            Ok(Work::Solve(held(formula::random(alloc, vars, u64::from(number(seed.as_str())?)))?))
+            Ok(Work::Solve(with_io(formula::random(
+                alloc,
+                vars,
+                u64::from(number(seed.as_str())?),
+            ))?))
         }
         "formula" => {
             let text = fs::read_to_string(rt, word.as_str())?;
-            Ok(Work::Solve(held(dimacs::read(alloc, text.as_str()))?))
+            Ok(Work::Solve(with_io(dimacs::read(alloc, text.as_str()))?))
         }
         _ => Err(io::ErrorKind::InvalidInput.into()),
     }
 }
 
-fn done(rt: &HostRuntime) -> io::Result<()> {
-    match asked(rt)? {
+fn run(rt: &HostRuntime) -> io::Result<()> {
+    match read_work(rt)? {
         Work::Cells(count) => {
-            let tally = cells::tally(count);
-            println!(rt; "{count} cells, {tally} live inputs")
+            let live_inputs = cells::tally(count);
+            println!(rt; "{count} cells, {live_inputs} live inputs")
+        }
+        Work::Inverters(count) => {
+            let flat = with_io(inverters::chain(rt.alloc(), count))?;
+            match with_io(inverters::last_value(rt.alloc(), &flat))? {
+                Some(value) => println!(rt;
+                    "{count} inverters, the last output is {}",
+                    u8::from(value)
+                ),
+                None => Err(io::ErrorKind::InvalidInput.into()),
+            }
         }
         Work::Solve(formula) => {
             let vars = formula.vars;
             let clauses = formula.store.count();
-            let answer = held(solving::searched(rt.alloc(), &formula))?;
+            let answer = with_io(solving::search(rt.alloc(), &formula))?;
             println!(rt; "{vars} variables, {clauses} clauses: {answer}")
         }
     }
 }
 
 fn main(rt: HostRuntime) -> ExitCode {
-    match done(&rt) {
+    match run(&rt) {
         Ok(()) => ExitCode::SUCCESS,
         Err(error) => {
+            // a line that cannot be written changes no status
             let _ = eprintln!(rt; "{error}\n{USAGE}");
             ExitCode::FAILURE
         }

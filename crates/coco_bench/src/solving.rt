@@ -51,7 +51,7 @@ fn each_below(clause: &[Lit], vars: u32) -> bool
 }
 
 /// Solves with the picker that takes the variable with most bumps.
-pub(crate) fn searched(alloc: Global, formula: &Formula) -> Result<Answer, NoMemory> {
+pub(crate) fn search(alloc: Global, formula: &Formula) -> Result<Answer, NoMemory> {
     let vars = formula.vars;
     if vars > 1 << 30 || !all_below(&formula.store, vars) {
         return Ok(Answer::OutOfRange);

@@ -1,6 +1,7 @@
 ghost use Rattle.std.specs.Prelude.{◌≤◌};
 
 use crate::formula::{Formula, pigeonholes, random};
+use crate::inverters::{chain, last_value};
 use crate::solving::all_below;
 use clause_solver::{Outcome, solve};
 use clause_store::Store;
@@ -26,8 +27,8 @@ fn meets(store: &Store, values: &[bool]) -> bool {
     true
 }
 
-/// Solves, and shows the answer right: values meet every clause, or the lines are a derivation of the empty clause. Tells
-/// whether the clauses can be met.
+/// Solves, and shows the answer right: values meet every clause, or the lines are a derivation of the empty clause.
+/// Tells whether the clauses can be met.
 fn assert_right(
     rt: &impl Abort,
     alloc: Global,
@@ -88,6 +89,15 @@ fn pigeonholes_are_refuted(rt: HostRuntime) -> Result<(), Fail> {
     for holes in 1..5 {
         let formula = pigeonholes(rt.alloc(), holes)?;
         assert!(rt; !assert_agreed(&rt, rt.alloc(), &formula)?);
+    }
+    Ok(())
+}
+
+#[test]
+fn the_end_of_a_chain_goes_by_the_number_of_inverters(rt: HostRuntime) -> Result<(), NoMemory> {
+    let alloc = rt.alloc();
+    for (count, value) in [(0, false), (1, true), (4, false), (7, true)] {
+        assert_eq!(rt; last_value(alloc, &chain(alloc, count)?)?, Some(value));
     }
     Ok(())
 }
