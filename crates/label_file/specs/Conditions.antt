@@ -32,8 +32,8 @@ pub record AreValues (declared : ℕ) (values : List LabelValue) : Type 0 where
   pub each : All (IsValue declared) values
 
 pub record IsWord (declared address : ℕ) (value : LabelValue) : Type 0 where
-  pub address : IsAddress address
-  pub value : IsValue declared value
+  pub place : IsAddress address
+  pub given : IsValue declared value
 
 abbrev pub IsLine : ℕ → LabelLine → Type 0
 IsLine declared (line.Reg net value) = IsValue declared value
