@@ -1,0 +1,10 @@
+pub mod PartLemmas
+pub mod PlacedLemmas
+pub mod WriteLemmas
+pub mod OrderLemmas
+pub mod SourceLemmas
+pub mod SettleLemmas
+pub mod CheckLemmas
+pub mod BoundLemmas
+pub mod CycleLemmas
+pub mod StandLemmas

@@ -1,0 +1,30 @@
+use Rattle.std.proofs.Common.{◌≡◌, ℕ, ◌+◌, ◌<◌, length, List, sym, ◌∙◌, ap, subst, arith}
+use Rattle.std.specs.Prelude.{Contains}
+use Rattle.coco_base.specs.declared.setup.LeafPlan.{LeafPlan}
+use Rattle.coco_model.specs.Stepped.{row_of}
+use Rattle.cycle_sim.specs.Memories.{word_part}
+use Rattle.cycle_sim.specs.Writes.{IsWritten, bit_writes}
+use Rattle.cycle_sim.proofs.WriteLemmas.{member_at, joined_more}
+use Rattle.cycle_sim.proofs.leaves.write_leaves.Goals as goal
+use Rattle.cycle_sim.proofs.leaves.write_leaves.Goals.{in-Some, in-None}
+
+pub write_word-requires-clause-bits : goal.write_word-requires-clause-bits
+write_word-requires-clause-bits c = λ b h.
+    let low = (c.requires.leaves c.leaf-item.result (member_at c.args.leaves.now c.leaves.leaf-index c.leaf-item.result c.leaves-test.true c.leaf-item.is)).below b
+    (subst (λ (bs : List ℕ). Contains bs b) c.as_slice.ensures h) in
+    let long = c.leaves.auto.row in
+    omega arith
+
+pub leaves-preserved : goal.leaves-preserved
+leaves-preserved c =
+    let leaf = c.leaf-item.result in
+    let m = c.args.memory.now in
+    elim c.match-word_place.branch [
+      | in-Some w ↦
+          rw w.row-is (joined_more (λ (l : LeafPlan). bit_writes (λ k b. word_part m l.address k) 0 l.bits) c.args.leaves.now c.leaves.leaf-index leaf c.args.row.now c.leaves.row _
+          c.leaves-test.true c.leaf-item.is c.leaves.invariant
+          (subst (λ (bs : List ℕ). IsWritten (bit_writes (λ k b. word_part m leaf.address k) 0 bs) c.leaves.row w.write_word.new.row) w.as_slice.ensures
+          (subst (λ (p : ℕ). IsWritten (bit_writes (λ k b. row_of m (p + k)) 0 w.as_slice.result.now) c.leaves.row w.write_word.new.row) w.in-Some.ensures.place w.write_word.ensures)))
+      | in-None w ↦
+          absurd (w.in-None.ensures.region (c.requires.leaves leaf (member_at c.args.leaves.now c.leaves.leaf-index leaf c.leaves-test.true c.leaf-item.is)).address.inside)
+    ]

@@ -1,0 +1,22 @@
+use Rattle.std.proofs.Common.{◌≡◌, ◌≢◌, ℕ, ◌+◌, ◌≤◌, List, length, sym, ◌∙◌, ap, subst, arith}
+use Rattle.coco_model.specs.Carried.{number_on}
+use Rattle.coco_model.specs.Controls.{IsInRegion}
+use Rattle.coco_model.specs.Known.{ones}
+use Rattle.coco_model.specs.Stepped.{row_of}
+use Rattle.cycle_sim.specs.Memories.{word_place}
+use Rattle.cycle_sim.proofs.PlacedLemmas.{stores_word, stores_nothing, stores_outside}
+use Rattle.cycle_sim.proofs.memory.store_word.Goals as goal
+
+pub returns-in-Some : goal.returns-in-Some
+returns-in-Some c = λ word holds.
+    let r = row_of c.args.row.now in
+    let same : c.number_on.result ≡ number_on (ones r) c.args.mem.now.address = c.number_on.ensures ∙ ap (number_on (ones r)) c.as_slice.ensures in
+    stores_word r c.args.mem.now c.args.memory.now c.place_bytes.new.memory word c.in-Some.place (sym c.is_write.ensures ∙ c.if-not-is_write.false)
+    (subst IsInRegion same c.in-Some.ensures.region) (c.in-Some.ensures.place ∙ ap word_place same) holds c.place_bytes.ensures
+
+pub returns-in-None : goal.returns-in-None
+returns-in-None c = λ word holds.
+    let r = row_of c.args.row.now in
+    let same : c.number_on.result ≡ number_on (ones r) c.args.mem.now.address = c.number_on.ensures ∙ ap (number_on (ones r)) c.as_slice.ensures in
+    stores_outside r c.args.mem.now c.args.memory.now word (sym c.is_write.ensures ∙ c.if-not-is_write.false)
+    (λ region. c.in-None.ensures.region (subst IsInRegion (sym same) region)) holds
