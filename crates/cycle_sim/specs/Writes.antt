@@ -1,5 +1,5 @@
 -- Rows that are written bit by bit, and what is written at the leaves of a cycle.
-use Rattle.std.specs.Prelude.{◌≡◌, ℕ, suc, ◌<◌, ◌≤◌, cond, nat_eq, List, [], ◌∷◌, length, get_or, Contains}
+use Rattle.std.specs.Prelude.{◌≡◌, ℕ, suc, ◌<◌, ◌≤◌, cond, nat_eq, List, [], ◌∷◌, length, map, flat_map, get_or, Contains}
 use Rattle.coco_base.specs.declared.cell.Part.{Part}
 use Rattle.coco_base.specs.declared.labels.LabelTable.{LabelTable}
 use Rattle.coco_base.specs.declared.netlist.FlatFlop.{FlatFlop}
@@ -56,11 +56,31 @@ flop_write old f = record { bit = f.output; part = wire_part old f.next }
 
 -- a flop has its start
 abbrev pub start_write : LabelTable → List Start → FlatFlop → Write
-start_write table starts f = record { bit = f.output; part = start_state parts table 0 (get_or starts f.output (Public false)) }
+start_write table starts f =
+    record { bit = f.output; part = start_state parts table 0 (get_or starts f.output (Public false)) }
 
 -- bit k of an answer has what the word that was read holds, and else what it had
 abbrev pub answer_part : Row → List Part → MemPlan → ℕ → ℕ → Part
-answer_part old memory mem k b = cond (is_read (ones old) mem) (word_part memory (word_address (ones old) mem) k) (old b)
+answer_part old memory mem k b =
+    cond (is_read (ones old) mem) (word_part memory (word_address (ones old) mem) k) (old b)
+
+-- what is written at the answer of a memory port, and at the answers of several
+abbrev pub writes_of_answer : Row → List Part → MemPlan → List Write
+writes_of_answer old memory mem = bit_writes (answer_part old memory mem) 0 mem.answer
+
+abbrev pub writes_of_answers : Row → List Part → List MemPlan → List Write
+writes_of_answers old memory mems = flat_map (writes_of_answer old memory) mems
+
+-- what is written at the bits of a word that is a leaf, and at those of several
+abbrev pub writes_of_leaf : List Part → LeafPlan → List Write
+writes_of_leaf memory leaf = bit_writes (λ k b. word_part memory leaf.address k) 0 leaf.bits
+
+abbrev pub writes_of_leaves : List Part → List LeafPlan → List Write
+writes_of_leaves memory leaves = flat_map (writes_of_leaf memory) leaves
+
+-- what is written at flops in the first cycle
+abbrev pub writes_of_starts : LabelTable → List Start → List FlatFlop → List Write
+writes_of_starts table starts flops = map (start_write table starts) flops
 
 -- a memory port whose answer can be written: its request, if any, is inside the regions
 pub record IsAnswerPort (bits : ℕ) (old : Row) (mem : MemPlan) : Type 0 where

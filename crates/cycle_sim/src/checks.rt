@@ -1,10 +1,10 @@
 // What is at fault in a cycle: a control that is unknown, a reset that is active, a request outside the regions.
 ghost use Rattle.std.specs.Prelude.{◌≡◌, ◌↔◌, ◌<◌, ◌^◌, length, IsTrue, MatchOption};
-ghost use Rattle.coco_model.specs.Controls.{Applies, AreControlsKnown, IsOutside, IsResetActive, IsUnknownControl};
+ghost use Rattle.coco_model.specs.Controls.{Applies, IsOutside, IsResetActive, IsUnknownControl};
 ghost use Rattle.coco_model.specs.Carried.{number_on};
 ghost use Rattle.coco_model.specs.Known.{ones};
-ghost use Rattle.coco_model.specs.Stepped.{HasNoOutside, HasNoReset, IsControlFault, IsFirstWith, row_of};
-ghost use Rattle.cycle_sim.specs.Simulations.{IsCycleFault, HasSmallAddresses, IsFirstOutside};
+ghost use Rattle.coco_model.specs.Stepped.{HasNoOutside, row_of};
+ghost use Rattle.cycle_sim.specs.Simulations.{IsCycleFault, HasSmallAddresses, IsFirstActive, IsFirstOutside, IsFirstUnknown};
 
 use crate::fault::SimFault;
 use crate::memory::word_place;
@@ -30,7 +30,7 @@ pub(crate) fn fault_in(graph: &Graph, setup: &Setup, row: &[Part], cycle: u32) -
 
 fn unknown_control(setup: &Setup, row: &[Part]) -> Option<u32>
     requires { length setup.now.controls < 2 ^ 32 }
-    ensures { MatchOption result (AreControlsKnown setup.now (row_of row.now)) (IsControlFault setup.now (row_of row.now)) }
+    ensures { IsFirstUnknown setup.now (row_of row.now) result }
 {
     let controls = setup.controls.as_slice();
     'controls: for number in 0..controls.len() {
@@ -68,7 +68,7 @@ fn applies(setup: &Setup, row: &[Part], when: When) -> bool
 }
 
 fn active_reset(graph: &Graph, row: &[Part]) -> Option<u32>
-    ensures { MatchOption result (HasNoReset graph.now.flat (row_of row.now)) (IsFirstWith (IsResetActive (row_of row.now)) graph.now.flat.flops) }
+    ensures { IsFirstActive graph.now.flat (row_of row.now) result }
 {
     'flops: for number in 0..graph.flops() {
         if is_active(row, graph.flop(number)) {

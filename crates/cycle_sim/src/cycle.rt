@@ -6,7 +6,7 @@ ghost use Rattle.coco_model.specs.Setups.{IsBoundTo};
 ghost use Rattle.coco_model.specs.Stepped.{IsGoodCycle};
 ghost use Rattle.gate_graph.specs.Graphs.{IsBuilt};
 ghost use Rattle.cycle_sim.specs.Memories.{HoldsWords};
-ghost use Rattle.cycle_sim.specs.Simulations.{IsAt, IsBefore, IsReady};
+ghost use Rattle.cycle_sim.specs.Simulations.{IsAtWith, IsBeforeWith, IsReadyWith};
 
 use crate::leaves::{
     clear, write_answers, write_echoes, write_flops, write_inputs, write_leaves, write_starts,
@@ -30,8 +30,8 @@ pub(crate) fn make_cycle(graph: &Graph, setup: &Setup, cycle: u32, rows: &mut Sn
     requires bound { IsBoundTo graph.now.flat setup.now }
     requires known { length rows.old.known.items ≡ graph.now.flat.bits }
     requires before { length rows.old.before.items ≡ graph.now.flat.bits }
-    requires ready { IsReady graph.now.flat setup.now cycle rows.old.known.items rows.old.before.items rows.old.memory.items }
-    ensures at { IsAt graph.now.flat setup.now cycle rows.new.known.items rows.new.before.items rows.new.memory.items }
+    requires ready { IsReadyWith graph.now.flat setup.now cycle rows.old }
+    ensures at { IsAtWith graph.now.flat setup.now cycle rows.new }
     ensures known { length rows.new.known.items ≡ graph.now.flat.bits }
     ensures before { length rows.new.before.items ≡ graph.now.flat.bits }
 {
@@ -48,7 +48,7 @@ fn first_cycle(graph: &Graph, setup: &Setup, rows: &mut Snapshot)
     requires known { length rows.old.known.items ≡ graph.now.flat.bits }
     requires before { length rows.old.before.items ≡ graph.now.flat.bits }
     requires words { HoldsWords rows.old.memory.items (start_word parts setup.now.table setup.now.words) }
-    ensures at { IsAt graph.now.flat setup.now 0 rows.new.known.items rows.new.before.items rows.new.memory.items }
+    ensures at { IsAtWith graph.now.flat setup.now 0 rows.new }
     ensures known { length rows.new.known.items ≡ graph.now.flat.bits }
     ensures before { length rows.new.before.items ≡ graph.now.flat.bits }
 {
@@ -69,8 +69,8 @@ fn next_cycle(graph: &Graph, setup: &Setup, cycle: u32, rows: &mut Snapshot)
     requires bound { IsBoundTo graph.now.flat setup.now }
     requires known { length rows.old.known.items ≡ graph.now.flat.bits }
     requires before { length rows.old.before.items ≡ graph.now.flat.bits }
-    requires at { IsBefore graph.now.flat setup.now cycle rows.old.known.items rows.old.before.items rows.old.memory.items }
-    ensures at { IsAt graph.now.flat setup.now cycle rows.new.known.items rows.new.before.items rows.new.memory.items }
+    requires at { IsBeforeWith graph.now.flat setup.now cycle rows.old }
+    ensures at { IsAtWith graph.now.flat setup.now cycle rows.new }
     ensures known { length rows.new.known.items ≡ graph.now.flat.bits }
     ensures before { length rows.new.before.items ≡ graph.now.flat.bits }
 {

@@ -1,5 +1,5 @@
 // What the leaves of a cycle are known to have, written bit by bit.
-ghost use Rattle.std.specs.Prelude.{◌≡◌, ℕ, ◌+◌, ◌<◌, ◌≤◌, map, flat_map, length, Contains};
+ghost use Rattle.std.specs.Prelude.{◌≡◌, ℕ, ◌+◌, ◌<◌, ◌≤◌, map, length, Contains};
 ghost use Rattle.coco_base.specs.declared.labels.LabelTable.{LabelTable};
 ghost use Rattle.coco_base.specs.declared.setup.EchoPlan.{EchoPlan};
 ghost use Rattle.coco_base.specs.declared.setup.InputPlan.{InputPlan};
@@ -7,10 +7,9 @@ ghost use Rattle.coco_base.specs.declared.setup.LeafPlan.{LeafPlan};
 ghost use Rattle.coco_base.specs.declared.setup.MemPlan.{MemPlan};
 ghost use Rattle.coco_base.specs.declared.cell.Part.TheVariants.{Zero};
 ghost use Rattle.coco_model.specs.Carried.{entry_of};
-ghost use Rattle.coco_model.specs.Controls.{IsOutside};
 ghost use Rattle.coco_model.specs.Stepped.{row_of};
-ghost use Rattle.cycle_sim.specs.Memories.{word_bits, word_part};
-ghost use Rattle.cycle_sim.specs.Writes.{IsWritten, AreBitsBelow, IsAnswerPort, IsLeafWord, answer_part, bit_writes, input_write, echo_write, flop_write, start_write};
+ghost use Rattle.cycle_sim.specs.Memories.{word_bits};
+ghost use Rattle.cycle_sim.specs.Writes.{IsWritten, AreBitsBelow, IsAnswerPort, IsLeafWord, bit_writes, input_write, echo_write, flop_write, writes_of_answer, writes_of_answers, writes_of_leaves, writes_of_starts};
 
 use crate::memory::{is_read, word_place};
 use crate::parts::{bit_part, number_on, start_part, wire_part};
@@ -63,7 +62,7 @@ pub(crate) fn write_answers(
 )
     requires ports { (m : MemPlan) → Contains memories.now m → IsAnswerPort (length row.old) (row_of before.now) m }
     requires words { length memory.now ≡ word_bits }
-    ensures { IsWritten (flat_map (λ (m : MemPlan). bit_writes (answer_part (row_of before.now) memory.now m) 0 m.answer) memories.now) row.old row.new }
+    ensures { IsWritten (writes_of_answers (row_of before.now) memory.now memories.now) row.old row.new }
 {
     'ports: for mem in memories {
         write_answer(mem, before, memory, row);
@@ -73,7 +72,7 @@ pub(crate) fn write_answers(
 fn write_answer(mem: &MemPlan, before: &[Part], memory: &[Part], row: &mut [Part])
     requires port { IsAnswerPort (length row.old) (row_of before.now) mem.now }
     requires words { length memory.now ≡ word_bits }
-    ensures { IsWritten (bit_writes (answer_part (row_of before.now) memory.now mem.now) 0 mem.now.answer) row.old row.new }
+    ensures { IsWritten (writes_of_answer (row_of before.now) memory.now mem.now) row.old row.new }
 {
     let answer = mem.answer.as_slice();
     if !is_read(before, mem) {
@@ -112,7 +111,7 @@ fn write_word(bits: &[u32], start: usize, memory: &[Part], row: &mut [Part])
 pub(crate) fn write_leaves(leaves: &[LeafPlan], memory: &[Part], row: &mut [Part])
     requires leaves { (l : LeafPlan) → Contains leaves.now l → IsLeafWord (length row.old) l }
     requires words { length memory.now ≡ word_bits }
-    ensures { IsWritten (flat_map (λ (l : LeafPlan). bit_writes (λ k b. word_part memory.now l.address k) 0 l.bits) leaves.now) row.old row.new }
+    ensures { IsWritten (writes_of_leaves memory.now leaves.now) row.old row.new }
 {
     'leaves: for leaf in leaves {
         match word_place(leaf.address) {
@@ -137,7 +136,7 @@ pub(crate) fn write_flops(graph: &Graph, before: &[Part], row: &mut [Part])
 pub(crate) fn write_starts(graph: &Graph, starts: &[Start], row: &mut [Part])
     requires row { length row.old ≡ graph.now.flat.bits }
     requires starts { length starts.now ≡ graph.now.flat.bits }
-    ensures { (table : LabelTable) → IsWritten (map (start_write table starts.now) graph.now.flat.flops) row.old row.new }
+    ensures { (table : LabelTable) → IsWritten (writes_of_starts table starts.now graph.now.flat.flops) row.old row.new }
 {
     'flops: for number in 0..graph.flops() {
         let bit = graph.flop(number).output as usize;

@@ -1,15 +1,14 @@
 // The words of the memory, bit by bit: those of the first region by address, then those of the second.
 ghost use Rattle.std.specs.Prelude.{false, ◌≡◌, ℕ, ◌+◌, ◌*◌, ◌/◌, ◌<◌, ◌≤◌, [], ◌∷◌, length, get_or, Contains, IfOk, MatchOption};
-ghost use Rattle.coco_base.specs.declared.setup.Start.TheVariants.{Public};
 ghost use Rattle.coco_base.specs.declared.labels.LabelTable.{LabelTable};
 ghost use Rattle.coco_base.specs.declared.setup.WordPlan.{WordPlan};
 ghost use Rattle.coco_base.specs.declared.setup.MemPlan.{MemPlan};
-ghost use Rattle.coco_model.specs.Carried.{is_read, is_write, start_state, start_word, stored_word};
+ghost use Rattle.coco_model.specs.Carried.{is_read, is_write, start_word};
 ghost use Rattle.coco_model.specs.Controls.{IsInRegion};
-ghost use Rattle.coco_model.specs.Known.{Row, ones, parts};
+ghost use Rattle.coco_model.specs.Known.{ones, parts};
 ghost use Rattle.coco_model.specs.Setups.{IsMemoryWord};
 ghost use Rattle.coco_model.specs.Stepped.{row_of};
-ghost use Rattle.cycle_sim.specs.Memories.{HoldsWords, IsPlaced, port_part, word_bits, word_place};
+ghost use Rattle.cycle_sim.specs.Memories.{AreStored, HoldsWords, IsPlaced, IsWordPlaced, plan_part, port_part, word_bits, word_place};
 
 use crate::parts::{number_on, start_part, wire_at, wire_is_one, wire_or_off, wire_part};
 use coco_base::{MemPlan, NoMemory, Part, Start, WordPlan};
@@ -72,7 +71,7 @@ pub(crate) fn start_words(alloc: Global, words: &[WordPlan]) -> Result<Vec<Part>
 fn place_word(word: &WordPlan, memory: &mut [Part])
     requires word { IsMemoryWord word.now }
     requires memory { length memory.old ≡ word_bits }
-    ensures { (table : LabelTable) → IsPlaced (word_place word.now.address) 32 (λ k. start_state parts table 0 (get_or word.now.bits k (Public false))) memory.old memory.new }
+    ensures { IsWordPlaced word.now memory.old memory.new }
 {
     match word_place(word.address) {
         Some(place) => place_parts(word.bits.as_slice(), place, memory),
@@ -83,7 +82,7 @@ fn place_word(word: &WordPlan, memory: &mut [Part])
 fn place_parts(bits: &[Start], place: usize, memory: &mut [Part])
     requires bits { length bits.now ≡ 32 }
     requires inside { place + 32 ≤ length memory.old }
-    ensures { (table : LabelTable) → IsPlaced place 32 (λ k. start_state parts table 0 (get_or bits.now k (Public false))) memory.old memory.new }
+    ensures { (table : LabelTable) → IsPlaced place 32 (plan_part table bits.now) memory.old memory.new }
 {
     'bits: for bit in 0..WORD {
         memory[place + bit] = start_part(bits[bit]);
@@ -94,7 +93,7 @@ fn place_parts(bits: &[Start], place: usize, memory: &mut [Part])
 pub(crate) fn store(row: &[Part], memories: &[MemPlan], memory: &mut [Part])
     requires addresses { (m : MemPlan) → Contains memories.now m → length m.address ≤ 32 }
     requires memory { length memory.old ≡ word_bits }
-    ensures { (word : ℕ → Row) → HoldsWords memory.old word → HoldsWords memory.new (λ address k. stored_word parts (ones (row_of row.now)) (row_of row.now) memories.now address k (word address k)) }
+    ensures { AreStored (row_of row.now) memories.now memory.old memory.new }
 {
     let mut rest = memories.len();
     'ports: while rest > 0 {
@@ -106,7 +105,7 @@ pub(crate) fn store(row: &[Part], memories: &[MemPlan], memory: &mut [Part])
 fn store_word(row: &[Part], mem: &MemPlan, memory: &mut [Part])
     requires address { length mem.now.address ≤ 32 }
     requires memory { length memory.old ≡ word_bits }
-    ensures { (word : ℕ → Row) → HoldsWords memory.old word → HoldsWords memory.new (λ address k. stored_word parts (ones (row_of row.now)) (row_of row.now) (mem.now ∷ []) address k (word address k)) }
+    ensures { AreStored (row_of row.now) (mem.now ∷ []) memory.old memory.new }
 {
     if !is_write(row, mem) {
         return;

@@ -32,11 +32,8 @@ impl<'a> Model for Sim<'a> {
 }
 
 impl<'a> Sim<'a> {
-    ghost use Rattle.coco_model.specs.Carried.{number_on};
-    ghost use Rattle.coco_model.specs.Known.{ones};
     ghost use Rattle.coco_model.specs.Setups.{IsBoundTo};
-    ghost use Rattle.coco_model.specs.Stepped.{row_of};
-    ghost use Rattle.cycle_sim.specs.Simulations.{IsSimulation, IsInEveryRun, IsNewSimulation, IsAfterNext, HasShown};
+    ghost use Rattle.cycle_sim.specs.Simulations.{IsSimulation, IsInRuns, IsNewSimulation, IsAfterNext, HasShown, HasStepped, IsPcInRuns, pc_of};
 
     /// A simulation that stands before the first cycle. After it no call takes memory.
     pub fn new(alloc: Global, graph: &'a Graph, setup: &'a Setup) -> Result<Self, NoMemory>
@@ -59,14 +56,15 @@ impl<'a> Sim<'a> {
         })
     }
 
-    /// Goes to the next cycle, unless an earlier one has a fault. Of what is at fault in the cycle the first is answered;
-    /// then the rows stay, and each later call answers the same.
+    /// Goes to the next cycle, unless an earlier one has a fault. Of what is at fault in the cycle the first is
+    /// answered; then the rows stay, and each later call answers the same. It takes no memory.
     pub fn next(&mut self) -> Result<(), SimFault>
         requires { self.old.cycles < 4294967295 }
         ensures after { IsAfterNext self.old self.new }
         ensures ok { OnOk result (self.new.fault ≡ None) }
         ensures err { IfErr result (λ fault. self.new.fault ≡ Some fault) }
-        ensures runs { OnOk result (IsInEveryRun self.new.gates.flat self.new.setup self.old.cycles (row_of self.new.known)) }
+        ensures stepped { OnOk result (HasStepped self.new self.old.cycles) }
+        ensures runs { OnOk result (IsInRuns self.new self.old.cycles) }
         ensures simulation { IsSimulation self.new }
     {
         if let Some(fault) = self.fault {
@@ -106,7 +104,8 @@ impl<'a> Sim<'a> {
         requires cycles { 0 < self.now.cycles }
         requires good { self.now.fault ≡ None }
         ensures none { MatchOption result (self.now.setup.pc ≡ []) (λ _. self.now.setup.pc ≢ []) }
-        ensures value { MatchOption result (Unit {0}) (λ n. n ≡ number_on (ones (row_of self.now.known)) self.now.setup.pc) }
+        ensures value { MatchOption result (Unit {0}) (λ n. n ≡ pc_of self.now) }
+        ensures runs { MatchOption result (Unit {0}) (IsPcInRuns self.now) }
         ensures simulation { IsSimulation self.now }
     {
         let wires = self.setup.pc.as_slice();
