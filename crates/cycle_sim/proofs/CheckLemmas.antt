@@ -1,7 +1,6 @@
 -- The first place of a list at which something holds.
-use Rattle.std.proofs.Common.{◌≡◌, ℕ, ◌+◌, ◌<◌, ◌≤◌, List, length, refl, sym, ◌∙◌, ap, subst, arith}
+use Rattle.std.proofs.Common.{◌≡◌, ℕ, ◌+◌, ◌<◌, ◌≤◌, List, length}
 use Rattle.std.specs.Prelude.{Contains, slice_get, Some}
-use Rattle.coco_base.specs.declared.cell.Part.TheVariants.{Vary}
 use Rattle.coco_base.specs.declared.setup.ControlPlan.{ControlPlan}
 use Rattle.coco_base.specs.declared.setup.Setup.{Setup}
 use Rattle.coco_model.specs.Controls.{AreControlsKnown, IsUnknownControl}

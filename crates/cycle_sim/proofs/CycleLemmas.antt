@@ -1,38 +1,34 @@
 -- What is known, from cycle to cycle.
-use Rattle.std.proofs.Common.{◌≡◌, ◌≢◌, ℕ, zero, suc, ◌+◌, ◌*◌, ◌/◌, ◌<◌, ◌≤◌, ◌⊎◌, inl, inr, Bool, true, false, not, cond, ◌&&◌, nat_eq, List, [], ◌∷◌, ◌++◌, map, length, get_or, refl, sym, ◌∙◌, ap, subst, arith}
-use Rattle.std.specs.Prelude.{Contains, slice_get, Some, None, flat_map, option_to_list}
+use Rattle.std.proofs.Common.{◌≡◌, ◌≢◌, ℕ, suc, ◌<◌, ◌≤◌, ◌⊎◌, inl, inr, Bool, true, false, not, cond, ◌&&◌, nat_eq, List, [], ◌∷◌, ◌++◌, map, get_or, refl, sym, ◌∙◌, ap, subst, arith}
+use Rattle.std.specs.Prelude.{Contains, slice_get, Some, flat_map, option_to_list}
 use Rattle.std.proofs.lemmas.Bool.{cases_eq, cases_order, ne_eqb, eq-eqb}
 use Rattle.std.proofs.lemmas.List.Elements.{Contains-append_cases}
 use Rattle.coco_base.specs.declared.cell.Part.{Part}
-use Rattle.coco_base.specs.declared.cell.Part.TheVariants.{Zero, One}
-use Rattle.coco_base.specs.declared.labels.LabelTable.{LabelTable}
+use Rattle.coco_base.specs.declared.cell.Part.TheVariants.{Zero}
 use Rattle.coco_base.specs.declared.netlist.Flat.{Flat}
-use Rattle.coco_base.specs.declared.netlist.FlatFlop.{FlatFlop}
-use Rattle.coco_base.specs.declared.setup.EchoPlan.{EchoPlan}
 use Rattle.coco_base.specs.declared.setup.LeafPlan.{LeafPlan}
 use Rattle.coco_base.specs.declared.setup.MemPlan.{MemPlan}
 use Rattle.coco_base.specs.declared.setup.Setup.{Setup}
 use Rattle.coco_base.specs.declared.setup.Start.TheVariants.{Public}
-use Rattle.coco_model.specs.Carried.{States, start_state, start_word, stored_word, entry_of, is_read, word_address, number_on, wire_or_off, IsGiven, IsFirst, IsNext, IsCarried}
+use Rattle.coco_model.specs.Carried.{start_state, start_word, stored_word, entry_of, is_read, word_address, number_on, wire_or_off, IsGiven, IsFirst, IsNext}
 use Rattle.coco_model.specs.Controls.{IsInRegion, IsOutside}
 use Rattle.coco_model.specs.Known.{Row, ones, parts, wire_part, IsForcedRow, IsKnown}
-use Rattle.coco_model.specs.Netlist.{Valuation, wire_value, HasOneDriver, IsCellBit}
-use Rattle.coco_model.specs.Run.{before}
-use Rattle.coco_model.specs.Setups.{IsBoundTo, IsWordAddress}
-use Rattle.coco_model.specs.Stepped.{IsGoodCycle, HasNoOutside, row_of}
-use Rattle.model_laws.proofs.Lists.{image_of_map, joined_of_flat_map, member_of_place}
+use Rattle.coco_model.specs.Netlist.{wire_value, HasOneDriver, IsCellBit}
+use Rattle.coco_model.specs.Setups.{IsBoundTo}
+use Rattle.coco_model.specs.Stepped.{IsGoodCycle, row_of}
+use Rattle.model_laws.proofs.Lists.{image_of_map, joined_of_flat_map}
 use Rattle.model_laws.proofs.Sources.{Sources, HasSources}
 use Rattle.model_laws.proofs.WordLeaves.{word_leaf_law}
-use Rattle.model_laws.specs.Laws.{WordLeafLaw, IsAsWord}
+use Rattle.model_laws.specs.Laws.{WordLeafLaw}
 use Rattle.coco_model.proofs.Basics.{Contains-cases, Contains-none}
 use Rattle.gate_graph.proofs.Items.{place_below}
 use Rattle.cycle_sim.specs.Memories.{word_part, HoldsWords}
 use Rattle.cycle_sim.specs.Simulations.{IsAt, IsBefore}
-use Rattle.cycle_sim.specs.Writes.{Write, after_writes, IsWritten, bit_writes, answer_part, input_write, echo_write, flop_write, start_write}
+use Rattle.cycle_sim.specs.Writes.{Write, IsWritten, bit_writes, answer_part}
 use Rattle.cycle_sim.proofs.PartLemmas.{true_one}
 use Rattle.cycle_sim.proofs.PlacedLemmas.{region_word}
-use Rattle.cycle_sim.proofs.SourceLemmas.{parts_of, joined, write_zero, write_echo, answer_writes, sources_hold}
-use Rattle.cycle_sim.proofs.WriteLemmas.{written_append, after_zeros}
+use Rattle.cycle_sim.proofs.SourceLemmas.{parts_of, joined, write_zero, write_echo, sources_hold}
+use Rattle.cycle_sim.proofs.WriteLemmas.{after_zeros}
 
 -- a function of cycles with another value in one cycle
 abbrev pub extend : {X : Type 0} → (ℕ → X) → ℕ → X → ℕ → X

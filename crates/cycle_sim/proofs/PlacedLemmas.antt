@@ -1,5 +1,5 @@
 -- The words of the memory as one list of their bits.
-use Rattle.std.proofs.Common.{◌≡◌, ◌≢◌, ℕ, zero, suc, ◌+◌, ◌-◌, ◌*◌, ◌/◌, ◌<◌, ◌≤◌, ◌⊎◌, inl, inr, Bool, true, false, cond, ◌&&◌, nat_eq, nat_lt, List, [], ◌∷◌, length, get_or, set, drop, refl, sym, ◌∙◌, ap, subst, arith}
+use Rattle.std.proofs.Common.{◌≡◌, ◌≢◌, ℕ, zero, suc, ◌+◌, ◌-◌, ◌*◌, ◌/◌, ◌<◌, ◌≤◌, ◌⊎◌, inl, inr, Bool, true, false, cond, ◌&&◌, nat_eq, List, [], ◌∷◌, length, get_or, set, drop, refl, sym, ◌∙◌, ap, subst, arith}
 use Rattle.std.proofs.lemmas.Bool.{cases_eq, cases_order, ne_eqb, eq-eqb, eqb-true, lt-ltb, le-ltb}
 use Rattle.std.proofs.lemmas.List.{get_or-set_same, get_or-set_other, length-replicate}
 use Rattle.std.specs.Prelude.{replicate}
@@ -15,11 +15,10 @@ use Rattle.coco_base.specs.declared.setup.WordPlan.{WordPlan}
 use Rattle.coco_model.specs.Carried.{number_on, word_address, is_write, stored_word, start_state, start_word, word_start}
 use Rattle.coco_model.specs.Controls.{IsInRegion}
 use Rattle.coco_model.specs.Known.{Row, ones, parts, wire_part}
-use Rattle.coco_model.specs.Netlist.{Valuation, wire_value}
+use Rattle.coco_model.specs.Netlist.{wire_value}
 use Rattle.coco_model.specs.Setups.{IsWordAddress}
 use Rattle.coco_model.specs.Stepped.{row_of}
 use Rattle.cycle_sim.specs.Memories.{word_bits, word_place, word_part, HoldsWords, IsPlaced, port_part}
-use Rattle.cycle_sim.proofs.WriteLemmas.{set_row}
 
 place_low : (a : ℕ) → a < 0x10000 → word_place a ≡ 32 * (a / 4)
 place_low a h = ap (λ b. cond b (32 * (a / 4)) (32 * ((0x4000 + (a - 0x10000)) / 4))) (lt-ltb a 0x10000 h)

@@ -1,7 +1,7 @@
 -- Settling what is known, cell by cell by rank.
 use Rattle.std.proofs.Common.{◌≡◌, ◌≢◌, ℕ, zero, suc, ◌+◌, ◌<◌, ◌≤◌, ◌⊎◌, inl, inr, List, [], ◌∷◌, map, length, get_or, set, refl, sym, ◌∙◌, ap, subst, arith}
 use Rattle.std.specs.Prelude.{Contains, slice_get, Some}
-use Rattle.std.proofs.lemmas.Bool.{cases_eq, cases_order}
+use Rattle.std.proofs.lemmas.Bool.{cases_order}
 use Rattle.std.proofs.lemmas.List.{get_or-set_same, get_or-set_other}
 use Rattle.coco_base.specs.declared.cell.Part.{Part}
 use Rattle.coco_base.specs.declared.cell.Part.TheVariants.{Zero}
@@ -9,15 +9,15 @@ use Rattle.coco_base.specs.declared.netlist.Flat.{Flat}
 use Rattle.coco_base.specs.declared.netlist.FlatCell.{FlatCell}
 use Rattle.coco_base.specs.declared.netlist.Wire.TheVariants.{Bit}
 use Rattle.coco_model.specs.Cells.{IsForced}
-use Rattle.coco_model.specs.Known.{Row, part_of, cell_parts, IsForcedRow}
+use Rattle.coco_model.specs.Known.{part_of, cell_parts, IsForcedRow}
 use Rattle.coco_model.specs.Netlist.{wires_of, IsCellBit}
 use Rattle.coco_model.specs.Stepped.{row_of}
 use Rattle.coco_model.proofs.Basics.{any_from_member}
 use Rattle.model_laws.proofs.Forced.{on_wires-cong}
-use Rattle.model_laws.proofs.Lists.{IsPlace, place_of_member, member_of_place}
+use Rattle.model_laws.proofs.Lists.{place_of_member, member_of_place}
 use Rattle.gate_graph.proofs.Items.{get_at, same_at, place_below}
 use Rattle.gate_graph.specs.Graphs.{Gates, IsBuilt, rank_in}
-use Rattle.gate_graph.specs.Ranks.{IsRankOrder, output_rank}
+use Rattle.gate_graph.specs.Ranks.{output_rank}
 
 -- the cells at the places of the order below one have what their known inputs force, and no other bit has changed
 pub record AreSettled (flat : Flat) (order : List ℕ) (place : ℕ) (first row : List Part) : Type 0 where

@@ -15,12 +15,11 @@ use Rattle.coco_base.specs.declared.setup.Setup.{Setup}
 use Rattle.coco_model.specs.Known.{Row}
 use Rattle.coco_model.specs.Netlist.{HasOneDriver, HasNoRepeat, IsUndriven, IsInputBit, IsCellBit, input_bits}
 use Rattle.coco_model.specs.Carried.{IsBound, bound_bits}
-use Rattle.coco_model.specs.Stepped.{row_of}
 use Rattle.coco_model.proofs.Basics.{Contains-here, Contains-later, any_from_member}
-use Rattle.model_laws.proofs.Lists.{IsImage, image_of_map, Contains-map, Contains-flat_map, member_of_place}
+use Rattle.model_laws.proofs.Lists.{IsImage, image_of_map, Contains-map, Contains-flat_map}
 use Rattle.model_laws.proofs.Apart.{AreApart, apart_parts, no_repeat-append}
 use Rattle.model_laws.proofs.Sources.{Sources, HasSources, input_no_cell, flop_no_cell}
-use Rattle.cycle_sim.specs.Writes.{Write, after_writes, IsWritten, bit_writes}
+use Rattle.cycle_sim.specs.Writes.{Write, after_writes, bit_writes}
 use Rattle.cycle_sim.proofs.OrderLemmas.{member_moved, no_repeat_moved}
 use Rattle.cycle_sim.proofs.WriteLemmas.{bits_of, after-none, after-listed}
 

@@ -1,6 +1,6 @@
 -- A simulation from call to call.
-use Rattle.std.proofs.Common.{◌≡◌, ◌≢◌, ℕ, zero, suc, ◌+◌, ◌*◌, ◌<◌, ◌⊎◌, inl, inr, cond, List, [], ◌∷◌, length, refl, sym, ◌∙◌, ap, subst, arith}
-use Rattle.std.specs.Prelude.{Contains, Option, Some, None}
+use Rattle.std.proofs.Common.{◌≡◌, ◌≢◌, ℕ, zero, suc, ◌+◌, ◌*◌, ◌<◌, ◌⊎◌, inl, inr, cond, List, [], ◌∷◌, refl, sym, ◌∙◌, ap, subst, arith}
+use Rattle.std.specs.Prelude.{Contains, None}
 use Rattle.std.proofs.lemmas.Bool.{cases_eq}
 use Rattle.coco_base.specs.declared.cell.Part.{Part}
 use Rattle.coco_base.specs.declared.netlist.Flat.{Flat}
@@ -21,11 +21,10 @@ use Rattle.coco_model.specs.Known.{Row, is_one, ones, parts, wire_part}
 use Rattle.coco_model.specs.Setups.{IsBoundTo}
 use Rattle.coco_model.specs.Stepped.{IsGoodCycle, row_of}
 use Rattle.model_laws.proofs.Knowing.{known_law}
-use Rattle.model_laws.specs.Laws.{CheckedRun, IsChecked, KnownLaw}
+use Rattle.model_laws.specs.Laws.{CheckedRun, KnownLaw}
 use Rattle.gate_graph.specs.Graphs.{Gates, IsBuilt, rank_in}
 use Rattle.cycle_sim.specs.Memories.{HoldsWords}
 use Rattle.cycle_sim.specs.Simulations.{Simulation, HasStepped, IsSimulation, IsPcInRuns, pc_of, IsAt, IsBefore, IsReady, StandsAt, IsCycleFault, IsInEveryRun}
-use Rattle.cycle_sim.specs.declared.fault.SimFault.{SimFault}
 
 -- a simulation without a fault is ready for its next cycle
 pub ready : (sim : Simulation) (t : ℕ) → StandsAt sim t → sim.fault ≡ None → IsReady sim.gates.flat sim.setup t sim.known sim.old sim.memory

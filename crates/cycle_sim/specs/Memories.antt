@@ -1,7 +1,6 @@
 -- The words of the memory as one list of their bits.
 use Rattle.std.specs.Prelude.{◌≡◌, ℕ, false, ◌+◌, ◌-◌, ◌*◌, ◌/◌, ◌<◌, ◌≤◌, ◌⊎◌, cond, nat_lt, List, length, get_or}
 use Rattle.coco_base.specs.declared.cell.Part.{Part}
-use Rattle.coco_base.specs.declared.cell.Part.TheVariants.{Zero}
 use Rattle.coco_base.specs.declared.netlist.Wire.TheVariants.{Const}
 use Rattle.coco_base.specs.declared.setup.MemPlan.{MemPlan}
 use Rattle.coco_base.specs.declared.labels.LabelTable.{LabelTable}

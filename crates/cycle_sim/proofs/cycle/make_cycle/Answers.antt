@@ -1,5 +1,3 @@
-use Rattle.std.proofs.Common.{◌≡◌, ℕ, sym, subst}
-use Rattle.cycle_sim.specs.Simulations.{IsAt}
 use Rattle.cycle_sim.proofs.StandLemmas.{ready_first, ready_later}
 use Rattle.cycle_sim.proofs.cycle.make_cycle.Goals as goal
 

@@ -1,14 +1,11 @@
-use Rattle.std.proofs.Common.{◌≡◌, ℕ, ◌+◌, ◌<◌, List, ◌++◌, length, take, drop, refl, sym, ◌∙◌, ap, subst, arith}
+use Rattle.std.proofs.Common.{◌≡◌, ℕ, List, ◌++◌, length, take, drop, sym, ◌∙◌, ap, subst, arith}
 use Rattle.std.specs.Prelude.{Contains}
 use Rattle.coco_base.specs.declared.cell.Part.{Part}
 use Rattle.coco_base.specs.declared.setup.EchoPlan.{EchoPlan}
 use Rattle.coco_base.specs.declared.setup.InputPlan.{InputPlan}
 use Rattle.coco_base.specs.declared.setup.LeafPlan.{LeafPlan}
 use Rattle.coco_base.specs.declared.setup.MemPlan.{MemPlan}
-use Rattle.coco_model.specs.Carried.{stored_word}
-use Rattle.coco_model.specs.Known.{Row, ones, parts}
 use Rattle.coco_model.specs.Stepped.{row_of}
-use Rattle.cycle_sim.specs.Memories.{HoldsWords}
 use Rattle.cycle_sim.specs.Simulations.{IsAt}
 use Rattle.cycle_sim.specs.Writes.{IsAnswerPort, IsLeafWord}
 use Rattle.cycle_sim.proofs.BoundLemmas.{inputs_below, echoes_below, answer_ports, leaf_words}

@@ -1,7 +1,5 @@
-use Rattle.std.proofs.Common.{◌≡◌, ◌<◌, length, get_or, refl, sym, ◌∙◌, ap, subst, arith}
-use Rattle.std.proofs.lemmas.List.{take_more, take_all}
+use Rattle.std.proofs.Common.{arith}
 use Rattle.std.proofs.lemmas.List.Elements.{Contains-get_or}
-use Rattle.coco_base.specs.declared.cell.Part.TheVariants.{Zero}
 use Rattle.coco_model.specs.Stepped.{row_of}
 use Rattle.cycle_sim.proofs.WriteLemmas.{bits_more, bits_all}
 use Rattle.cycle_sim.proofs.leaves.keep.Goals as goal

@@ -1,4 +1,4 @@
-use Rattle.std.proofs.Common.{◌≡◌, ℕ, ◌+◌, ◌*◌, ◌/◌, ◌<◌, Bool, true, false, cond, List, length, sym, ◌∙◌, ap, subst, arith}
+use Rattle.std.proofs.Common.{◌≡◌, ℕ, ◌+◌, Bool, true, cond, List, sym, ◌∙◌, ap, subst}
 use Rattle.std.specs.Prelude.{Contains}
 use Rattle.coco_model.specs.Carried.{is_read, number_on, word_address}
 use Rattle.coco_model.specs.Controls.{IsInRegion}
@@ -6,7 +6,6 @@ use Rattle.coco_model.specs.Known.{ones}
 use Rattle.coco_model.specs.Stepped.{row_of}
 use Rattle.cycle_sim.specs.Memories.{word_part, word_place}
 use Rattle.cycle_sim.specs.Writes.{IsWritten, bit_writes}
-use Rattle.cycle_sim.proofs.CycleLemmas.{read_inside}
 use Rattle.cycle_sim.proofs.PlacedLemmas.{place_of_word}
 use Rattle.cycle_sim.proofs.leaves.write_answer.Goals as goal
 

@@ -1,4 +1,4 @@
-use Rattle.std.proofs.Common.{◌≡◌, ℕ, length, sym, subst}
+use Rattle.std.proofs.Common.{ℕ, sym, subst}
 use Rattle.coco_base.specs.declared.setup.MemPlan.{MemPlan}
 use Rattle.coco_model.specs.Stepped.{row_of}
 use Rattle.cycle_sim.specs.Writes.{IsAnswerPort, bit_writes, answer_part}

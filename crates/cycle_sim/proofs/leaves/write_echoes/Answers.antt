@@ -1,4 +1,4 @@
-use Rattle.std.proofs.Common.{◌≡◌, ◌<◌, false, length, map, get_or, sym, ◌∙◌, ap, arith}
+use Rattle.std.proofs.Common.{false, get_or, arith}
 use Rattle.std.proofs.lemmas.List.{get_or_default}
 use Rattle.std.proofs.lemmas.List.Elements.{Contains-get_or}
 use Rattle.coco_base.specs.declared.netlist.Wire.TheVariants.{Const}

@@ -1,4 +1,4 @@
-use Rattle.std.proofs.Common.{◌≡◌, ◌<◌, length, map, get_or, sym, ◌∙◌, ap, arith}
+use Rattle.std.proofs.Common.{◌≡◌, length, sym, arith}
 use Rattle.model_laws.proofs.Lists.{member_of_place}
 use Rattle.gate_graph.proofs.Items.{get_at, place_below}
 use Rattle.coco_model.specs.Stepped.{row_of}

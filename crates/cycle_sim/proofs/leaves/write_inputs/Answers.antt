@@ -1,4 +1,4 @@
-use Rattle.std.proofs.Common.{◌≡◌, ◌<◌, length, map, get_or, sym, ◌∙◌, ap, arith}
+use Rattle.std.proofs.Common.{◌∙◌, ap, arith}
 use Rattle.coco_model.specs.Carried.{start_state, entry_of}
 use Rattle.coco_model.specs.Known.{parts}
 use Rattle.cycle_sim.specs.Writes.{input_write}

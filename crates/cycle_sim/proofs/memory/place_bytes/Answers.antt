@@ -1,5 +1,4 @@
-use Rattle.std.proofs.Common.{◌≡◌, ℕ, ◌+◌, ◌/◌, ◌<◌, ◌≤◌, true, false, cond, length, get_or, sym, ◌∙◌, ap, subst, arith}
-use Rattle.coco_base.specs.declared.netlist.Wire.{Wire}
+use Rattle.std.proofs.Common.{◌≡◌, ◌+◌, ◌/◌, false, cond, get_or, sym, ◌∙◌, ap, arith}
 use Rattle.coco_base.specs.declared.netlist.Wire.TheVariants.{Const}
 use Rattle.coco_model.specs.Known.{ones, wire_part}
 use Rattle.coco_model.specs.Netlist.{wire_value}

@@ -1,4 +1,4 @@
-use Rattle.std.proofs.Common.{◌≡◌, ℕ, List, length, get_or, sym, ◌∙◌, ap, subst, false}
+use Rattle.std.proofs.Common.{ℕ, List, get_or, subst, false}
 use Rattle.coco_base.specs.declared.setup.Start.{Start}
 use Rattle.coco_base.specs.declared.setup.Start.TheVariants.{Public}
 use Rattle.coco_model.specs.Carried.{start_state}

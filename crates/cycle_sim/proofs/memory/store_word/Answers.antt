@@ -1,10 +1,10 @@
-use Rattle.std.proofs.Common.{◌≡◌, ◌≢◌, ℕ, ◌+◌, ◌≤◌, List, length, sym, ◌∙◌, ap, subst, arith}
+use Rattle.std.proofs.Common.{◌≡◌, sym, ◌∙◌, ap, subst}
 use Rattle.coco_model.specs.Carried.{number_on}
 use Rattle.coco_model.specs.Controls.{IsInRegion}
 use Rattle.coco_model.specs.Known.{ones}
 use Rattle.coco_model.specs.Stepped.{row_of}
 use Rattle.cycle_sim.specs.Memories.{word_place}
-use Rattle.cycle_sim.proofs.PlacedLemmas.{stores_word, stores_nothing, stores_outside}
+use Rattle.cycle_sim.proofs.PlacedLemmas.{stores_word, stores_outside}
 use Rattle.cycle_sim.proofs.memory.store_word.Goals as goal
 
 pub returns-in-Some : goal.returns-in-Some

@@ -1,5 +1,4 @@
-use Rattle.std.proofs.Common.{◌≡◌, ◌+◌, ◌*◌, ◌^◌, ◌<◌, ◌≤◌, length, drop, subst, sym, arith, length-drop}
-use Rattle.coco_model.specs.Carried.{number_on}
+use Rattle.std.proofs.Common.{◌^◌, ◌<◌, ◌≤◌, length, drop, subst, sym, arith, length-drop}
 use Rattle.coco_model.specs.Known.{ones}
 use Rattle.coco_model.specs.Stepped.{row_of}
 use Rattle.cycle_sim.proofs.PartLemmas.{byte_small, number_small}

@@ -1,4 +1,4 @@
-use Rattle.std.proofs.Common.{◌≡◌, ℕ, List, map, length, get_or, sym, ◌∙◌, ap, subst}
+use Rattle.std.proofs.Common.{List, map, ◌∙◌, subst}
 use Rattle.coco_base.specs.declared.netlist.Wire.{Wire}
 use Rattle.coco_model.specs.Cells.{IsForced}
 use Rattle.coco_model.specs.Known.{wire_part}

@@ -1,4 +1,3 @@
-use Rattle.coco_model.specs.Stepped.{row_of}
 use Rattle.cycle_sim.proofs.SettleLemmas.{AreSettled}
 use Rattle.cycle_sim.proofs.settle.settle.Given as goal
 

@@ -1,4 +1,4 @@
-use Rattle.std.proofs.Common.{◌≡◌, length, refl, sym, ◌∙◌, ap, subst}
+use Rattle.std.proofs.Common.{length, refl, ◌∙◌, ap}
 use Rattle.std.proofs.lemmas.List.{length-replicate}
 use Rattle.coco_base.specs.declared.cell.Part.TheVariants.{Zero}
 use Rattle.cycle_sim.proofs.sim.Sim.new.Goals as goal
