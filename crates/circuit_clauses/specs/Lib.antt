@@ -1,0 +1,6 @@
+pub mod Signals
+pub mod Steps
+pub mod Gates
+pub mod Formulas
+pub mod Meanings
+pub mod Laws
