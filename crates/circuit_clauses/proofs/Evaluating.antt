@@ -1,13 +1,12 @@
 -- The one evaluation of steps.
-use Rattle.std.proofs.Common.{◌≡◌, ◌≢◌, ℕ, suc, ◌+◌, ◌<◌, ◌≤◌, Bool, true, false, cond, not, ◌&&◌, ◌||◌, eqb, List, [], ◌∷◌, refl, sym, ap, ◌∙◌, inl, inr, arith}
-use Rattle.std.specs.Bool.{beq}
+use Rattle.std.proofs.Common.{◌≡◌, ◌≢◌, ℕ, ◌+◌, ◌<◌, ◌≤◌, Bool, true, false, cond, not, eqb, List, [], ◌∷◌, refl, sym, ap, ◌∙◌, inl, inr, arith}
 use Rattle.std.proofs.lemmas.Bool.{cases_eq, eq-eqb, ne_eqb}
 use Rattle.circuit_clauses.specs.declared.signal.Signal.{Signal}
 use Rattle.circuit_clauses.specs.declared.signal.Signal.TheVariants.{Constant, Literal}
-use Rattle.circuit_clauses.specs.Signals.{is_true, value}
+use Rattle.circuit_clauses.specs.Signals.{value}
 use Rattle.circuit_clauses.specs.Steps.{Step, gate_signal, next_variable, variables_after}
 use Rattle.circuit_clauses.specs.Steps.Step.{input, or_and_gate, xor_and_gate, demand}
-use Rattle.circuit_clauses.specs.Meanings.{or_and_value, xor_and_value, IsDefined, AreDefined, AgreesAt, AgreeAtInputs, IsBelow, ReadsBelow, AllReadBelow, IsEvaluation, HasOneEvaluation}
+use Rattle.circuit_clauses.specs.Meanings.{or_and_value, xor_and_value, IsDefined, AreDefined, AgreesAt, AgreeAtInputs, IsBelow, ReadsBelow, AllReadBelow, HasOneEvaluation}
 
 -- the values with another one at one variable
 abbrev pub with_bit : (ℕ → Bool) → ℕ → Bool → ℕ → Bool

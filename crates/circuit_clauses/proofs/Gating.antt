@@ -1,14 +1,13 @@
 -- When gates hold.
-use Rattle.std.proofs.Common.{◌≡◌, ℕ, Bool, true, false, cond, not, ◌&&◌, ◌||◌, List, [], ◌∷◌, ◌++◌, ◌↔◌, IsTrue, refl, sym, ap, ◌∙◌, All}
+use Rattle.std.proofs.Common.{◌≡◌, ℕ, Bool, true, false, cond, not, ◌&&◌, ◌||◌, List, [], ◌∷◌, ◌↔◌, refl, sym, ◌∙◌, All}
 use Rattle.std.specs.Bool.{beq}
-use Rattle.std.specs.List.{list_all, flat_map}
+use Rattle.std.specs.List.{list_all}
 use Rattle.std.proofs.lemmas.List.Elements.{All-nil, All-append}
-use Rattle.clause_store.specs.declared.lit.Lit.{Lit}
 use Rattle.clause_store.specs.Assignments.{IsMet}
 use Rattle.circuit_clauses.specs.declared.signal.Signal.{Signal}
 use Rattle.circuit_clauses.specs.declared.signal.Signal.TheVariants.{Constant, Literal}
-use Rattle.circuit_clauses.specs.Signals.{is_true, value, negated, disjunction}
-use Rattle.circuit_clauses.specs.Steps.{Step, gate_signal, or_and_disjunctions, xor_and_disjunctions, disjunctions, step_clauses, next_variable, clauses_of_steps}
+use Rattle.circuit_clauses.specs.Signals.{value, negated}
+use Rattle.circuit_clauses.specs.Steps.{Step, gate_signal, or_and_disjunctions, xor_and_disjunctions, step_clauses, next_variable, clauses_of_steps}
 use Rattle.circuit_clauses.specs.Steps.Step.{input, or_and_gate, xor_and_gate, demand}
 use Rattle.circuit_clauses.specs.Meanings.{has_true, or_and_value, xor_and_value, Holds, AllHold}
 use Rattle.circuit_clauses.proofs.Truths.{disjunctions_met, All_left, All_right}

@@ -1,5 +1,5 @@
 -- Where a literal is put among ascending ones.
-use Rattle.std.proofs.Common.{◌≡◌, ◌≢◌, ℕ, zero, suc, ◌+◌, ◌-◌, ◌<◌, ◌≤◌, Bool, true, false, cond, eqb, ltb, List, [], ◌∷◌, ◌++◌, length, get_or, take, drop, Option, Some, None, option_map, option_and_then, option_to_list, IfSome, refl, sym, ap, ◌∙◌, subst, inl, inr, arith, All}
+use Rattle.std.proofs.Common.{◌≡◌, ◌≢◌, ℕ, zero, suc, ◌-◌, ◌<◌, ◌≤◌, Bool, true, false, cond, eqb, ltb, List, [], ◌∷◌, length, get_or, Option, Some, None, option_map, option_and_then, IfSome, refl, sym, inl, inr, arith, All}
 use Rattle.std.specs.Prelude.{insert}
 use Rattle.std.specs.Bool.{beq}
 use Rattle.std.proofs.lemmas.List.{get_or_default}
@@ -11,7 +11,7 @@ use Rattle.clause_store.specs.Signs.{Ascends}
 use Rattle.clause_store.proofs.Signs.{ascends_tail, ascends_head}
 use Rattle.circuit_clauses.specs.declared.signal.Signal.{Signal}
 use Rattle.circuit_clauses.specs.declared.signal.Signal.TheVariants.{Constant, Literal}
-use Rattle.circuit_clauses.specs.Signals.{placed, joined, disjunction}
+use Rattle.circuit_clauses.specs.Signals.{placed, joined}
 
 -- before the first literal with a greater variable, a literal is put in its place
 pub placed_new : (lit : Lit) (ls : List Lit) (i : ℕ) → i ≤ length ls → ((k : ℕ) (d : Lit) → k < i → (get_or ls k d).var < lit.var) → ((k : ℕ) (d : Lit) → i ≤ k → k < length ls → lit.var < (get_or ls k d).var) → placed lit ls ≡ Some (insert ls i lit)

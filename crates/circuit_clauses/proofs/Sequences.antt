@@ -1,11 +1,11 @@
 -- Steps one after the other.
-use Rattle.std.proofs.Common.{◌≡◌, ℕ, ◌+◌, ◌≤◌, ◌^◌, Bool, List, [], ◌∷◌, ◌++◌, length, refl, sym, ap, ◌∙◌, subst, ◌↔◌, append_assoc, length-append, arith}
+use Rattle.std.proofs.Common.{◌≡◌, ℕ, ◌+◌, ◌≤◌, ◌^◌, Bool, List, [], ◌∷◌, ◌++◌, length, refl, sym, ap, ◌∙◌, subst, append_assoc, length-append, arith}
 use Rattle.std.proofs.lemmas.List.{append-nil}
 use Rattle.clause_store.specs.declared.lit.Lit.{Lit}
 use Rattle.circuit_clauses.specs.Steps.{Step, step_clauses, next_variable, variables_after, clauses_of_steps}
 use Rattle.circuit_clauses.specs.Steps.Step.{input, or_and_gate, xor_and_gate, demand}
 use Rattle.circuit_clauses.specs.Formulas.{Formula, extended, Fits}
-use Rattle.circuit_clauses.specs.Meanings.{IsDefined, AreDefined, Holds, AllHold, ReadsBelow, AllReadBelow}
+use Rattle.circuit_clauses.specs.Meanings.{IsDefined, AreDefined, Holds, AllHold}
 
 pub variables_after-append : (var : ℕ) (steps more : List Step) → variables_after var (steps ++ more) ≡ variables_after (variables_after var steps) more
 variables_after-append var [] more = refl

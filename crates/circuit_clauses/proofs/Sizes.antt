@@ -1,10 +1,10 @@
 -- How much a step adds.
-use Rattle.std.proofs.Common.{◌≡◌, ℕ, ◌+◌, ◌*◌, ◌<◌, ◌≤◌, ◌^◌, List, [], ◌∷◌, ◌++◌, length, Option, Some, None, option_to_list, refl, arith, length-append}
+use Rattle.std.proofs.Common.{ℕ, ◌+◌, ◌*◌, ◌≤◌, ◌^◌, List, [], ◌∷◌, length, Option, Some, None, option_to_list, arith, length-append}
 use Rattle.std.specs.List.{flat_map}
 use Rattle.clause_store.specs.declared.lit.Lit.{Lit}
 use Rattle.circuit_clauses.specs.declared.signal.Signal.{Signal}
 use Rattle.circuit_clauses.specs.Signals.{joined, disjunction}
-use Rattle.circuit_clauses.specs.Steps.{Step, gate_signal, disjunctions, or_and_disjunctions, xor_and_disjunctions, step_clauses, next_variable, variables_after, clauses_of_steps}
+use Rattle.circuit_clauses.specs.Steps.{Step, gate_signal, or_and_disjunctions, xor_and_disjunctions, step_clauses, next_variable, variables_after, clauses_of_steps}
 use Rattle.circuit_clauses.specs.Steps.Step.{input, or_and_gate, xor_and_gate, demand}
 use Rattle.circuit_clauses.specs.Gates.{made_by, known_or_and, known_xor_and}
 use Rattle.circuit_clauses.specs.Formulas.{Formula, extended, Fits, CanStep}

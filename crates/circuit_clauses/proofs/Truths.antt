@@ -1,8 +1,8 @@
 -- When values meet the clauses of disjunctions.
-use Rattle.std.proofs.Common.{◌≡◌, ◌≢◌, ℕ, zero, suc, ◌+◌, ◌<◌, ◌≤◌, Bool, true, false, cond, not, ◌&&◌, ◌||◌, eqb, ltb, List, [], ◌∷◌, ◌++◌, length, get_or, Option, Some, None, option_map, option_and_then, option_to_list, MatchOption, IfSome, IsTrue, ◌↔◌, refl, sym, ap, ◌∙◌, subst, inl, inr, arith, All}
+use Rattle.std.proofs.Common.{◌≡◌, ◌≢◌, ℕ, Bool, true, false, cond, not, ◌||◌, eqb, ltb, List, [], ◌∷◌, ◌++◌, Option, Some, None, option_map, option_and_then, option_to_list, MatchOption, IfSome, ◌↔◌, refl, sym, ap, ◌∙◌, subst, inl, inr, arith, All}
 use Rattle.std.specs.Bool.{beq}
 use Rattle.std.specs.List.{list_any, list_all, flat_map}
-use Rattle.std.proofs.lemmas.Bool.{cases_order, cases_eq, lt-ltb, le-ltb, eq-eqb, ne_eqb, eqb-true, or_cases, or_left, or_right, and_parts, and_from}
+use Rattle.std.proofs.lemmas.Bool.{cases_order, cases_eq, lt-ltb, le-ltb, eq-eqb, ne_eqb, or_cases, or_left, or_right, and_parts, and_from}
 use Rattle.std.proofs.lemmas.List.Elements.{All-cons, All-nil, All-head, All-append, All-tail}
 use Rattle.clause_store.specs.declared.lit.Lit.{Lit}
 use Rattle.clause_store.specs.Signs.{Ascends, sign_of}
@@ -10,7 +10,7 @@ use Rattle.clause_store.specs.Assignments.{IsMet}
 use Rattle.clause_store.proofs.Signs.{ascends_tail, rest_is_none, sign_first, sign_rest}
 use Rattle.circuit_clauses.specs.declared.signal.Signal.{Signal}
 use Rattle.circuit_clauses.specs.declared.signal.Signal.TheVariants.{Constant, Literal}
-use Rattle.circuit_clauses.specs.Signals.{is_true, value, negated, placed, joined, disjunction}
+use Rattle.circuit_clauses.specs.Signals.{is_true, placed, joined, disjunction}
 use Rattle.circuit_clauses.specs.Meanings.{has_true}
 use Rattle.circuit_clauses.proofs.Placing.{joined_ascends}
 

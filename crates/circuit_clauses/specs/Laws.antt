@@ -1,13 +1,11 @@
 -- The laws of steps, as facts that contracts name.
-use Rattle.std.specs.Prelude.{◌≡◌, ℕ, ◌<◌, ◌+◌, ◌*◌, ◌≤◌, Bool, List, length, All, ◌↔◌}
-use Rattle.clause_store.specs.declared.lit.Lit.{Lit}
+use Rattle.std.specs.Prelude.{◌≡◌, ℕ, ◌+◌, ◌*◌, ◌≤◌, Bool, List, length, All, ◌↔◌}
 use Rattle.clause_store.specs.Assignments.{IsMet}
-use Rattle.clause_store.specs.Signs.{Ascends}
 use Rattle.circuit_clauses.specs.declared.signal.Signal.{Signal}
-use Rattle.circuit_clauses.specs.Signals.{value, disjunction}
+use Rattle.circuit_clauses.specs.Signals.{value}
 use Rattle.circuit_clauses.specs.Steps.{Step, clauses_of_steps, variables_after}
 use Rattle.circuit_clauses.specs.Gates.{or_and, xor_and}
-use Rattle.circuit_clauses.specs.Meanings.{IsDefined, AllHold, AreDefined, AllReadBelow, IsBelow, HasOneEvaluation, or_and_value, xor_and_value}
+use Rattle.circuit_clauses.specs.Meanings.{AllHold, AreDefined, AllReadBelow, HasOneEvaluation, or_and_value, xor_and_value}
 
 -- values meet the clauses of steps exactly where every step holds
 abbrev pub ClausesLaw : Type 0

@@ -1,5 +1,5 @@
 -- Signals, and the clause that says that some signal of a list is true.
-use Rattle.std.specs.Prelude.{◌≡◌, ℕ, Bool, true, false, not, cond, ◌==◌, nat_lt, List, [], ◌∷◌, Option, Some, None, option_map, option_and_then, option_to_list}
+use Rattle.std.specs.Prelude.{ℕ, Bool, true, false, not, cond, ◌==◌, nat_lt, List, [], ◌∷◌, Option, Some, None, option_map, option_and_then, option_to_list}
 use Rattle.std.specs.Bool.{beq}
 use Rattle.clause_store.specs.declared.lit.Lit.{Lit}
 use Rattle.circuit_clauses.specs.declared.signal.Signal.{Signal}

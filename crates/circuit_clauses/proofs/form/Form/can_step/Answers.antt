@@ -1,4 +1,4 @@
-use Rattle.std.proofs.Common.{◌+◌, ◌≤◌, ◌^◌, length, subst, arith}
+use Rattle.std.proofs.Common.{subst, arith}
 use Rattle.std.proofs.lemmas.Bool.{leb-true}
 use Rattle.circuit_clauses.specs.Formulas.{CanStep}
 use Rattle.circuit_clauses.proofs.Sizes.{can_step}
