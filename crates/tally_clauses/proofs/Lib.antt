@@ -1,0 +1,5 @@
+pub mod Turns
+pub mod Summing
+pub mod Trees
+pub mod Costs
+pub mod Charges
