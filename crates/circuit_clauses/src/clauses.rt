@@ -25,7 +25,8 @@ pub(crate) fn add_or_and(
     gate: Gate,
 ) -> Result<(), NoMemory>
     requires { length (store.old ++ flat_map disjunction (or_and_disjunctions gate.a gate.p gate.b gate.v)) ≤ 2 ^ 31 }
-    ensures { OnOk result (store.new ≡ store.old ++ flat_map disjunction (or_and_disjunctions gate.a gate.p gate.b gate.v)) }
+    ensures { let written = or_and_disjunctions gate.a gate.p gate.b gate.v in
+        OnOk result (store.new ≡ store.old ++ flat_map disjunction written) }
 {
     let Gate { a, p, b, v } = gate;
     add(store, scratch, &[a.negated(), v])?;
@@ -41,7 +42,8 @@ pub(crate) fn add_xor_and(
     gate: Gate,
 ) -> Result<(), NoMemory>
     requires { length (store.old ++ flat_map disjunction (xor_and_disjunctions gate.a gate.p gate.b gate.v)) ≤ 2 ^ 31 }
-    ensures { OnOk result (store.new ≡ store.old ++ flat_map disjunction (xor_and_disjunctions gate.a gate.p gate.b gate.v)) }
+    ensures { let written = xor_and_disjunctions gate.a gate.p gate.b gate.v in
+        OnOk result (store.new ≡ store.old ++ flat_map disjunction written) }
 {
     let Gate { a, p, b, v } = gate;
     add(store, scratch, &[p, a.negated(), v])?;

@@ -136,7 +136,7 @@ pub(crate) fn write_flops(graph: &Graph, before: &[Part], row: &mut [Part])
 pub(crate) fn write_starts(graph: &Graph, starts: &[Start], row: &mut [Part])
     requires row { length row.old ≡ graph.now.flat.bits }
     requires starts { length starts.now ≡ graph.now.flat.bits }
-    ensures { (table : LabelTable) → IsWritten (writes_of_starts table starts.now graph.now.flat.flops) row.old row.new }
+    ensures { (t : LabelTable) → IsWritten (writes_of_starts t starts.now graph.now.flat.flops) row.old row.new }
 {
     'flops: for number in 0..graph.flops() {
         let bit = graph.flop(number).output as usize;

@@ -96,14 +96,15 @@ fn labels_are_numbered_share_by_share_and_bit_by_bit(rt: HostRuntime) -> Result<
     Ok(())
 }
 
+// a file with a line of each form
+const FORMS: &[u8] =
+    b"version 2\r\n\r\n # a comment\nsecret\ta 1  2 #two\nmask m 1\nfresh in f\nreg q m\n\
+    input s 0 1 a.1 # \xc3\xa9\nmem 0x10ffc 7\nleaf 0\nleaf 69628\necho e q[0]\nclock clk\nimem r a d\n\
+    dmem r w b a v d\ncontrol c#\npc p\r";
+
 #[test]
-fn each_form_of_line_is_read(rt: HostRuntime) -> Result<(), Fail> {
-    let alloc = rt.alloc();
-    let file =
-        b"version 2\r\n\r\n # a comment\nsecret\ta 1  2 #two\nmask m 1\nfresh in f\nreg q m\n\
-        input s 0 1 a.1 # \xc3\xa9\nmem 0x10ffc 7\nleaf 0\nleaf 69628\necho e q[0]\nclock clk\nimem r a d\n\
-        dmem r w b a v d\ncontrol c#\npc p\r";
-    let labels = labels(&rt, alloc, file);
+fn lines_that_declare_labels_are_read(rt: HostRuntime) -> Result<(), Fail> {
+    let labels = labels(&rt, rt.alloc(), FORMS);
     let lines = labels.lines.as_slice();
     assert_eq!(rt; lines.len(), 15);
     assert!(rt; matches!(lines[0], LabelLine::Version { number: 2 }));
@@ -121,6 +122,14 @@ fn each_form_of_line_is_read(rt: HostRuntime) -> Result<(), Fail> {
     assert!(rt;
         matches!(&lines[3], LabelLine::Fresh { net, name } if net.as_str() == "in" && name.as_str() == "f")
     );
+    Ok(())
+}
+
+#[test]
+fn lines_that_give_values_and_name_nets_are_read(rt: HostRuntime) -> Result<(), Fail> {
+    let labels = labels(&rt, rt.alloc(), FORMS);
+    let lines = labels.lines.as_slice();
+    assert_eq!(rt; lines.len(), 15);
     assert!(rt; matches!(&lines[5], LabelLine::Input { values, .. } if values.len() == 3));
     assert!(rt;
         matches!(

@@ -37,7 +37,8 @@ fn places(
 ) -> Result<List<Signal>, NoMemory>
     requires { Fits (extended form.old (places form.old.vars ones.now others.now 0 count).steps) }
     ensures tally { IfOk result (λ tally. tally ≡ (places form.old.vars ones.now others.now 0 count).tally) }
-    ensures formula { OnOk result (form.new ≡ extended form.old (places form.old.vars ones.now others.now 0 count).steps) }
+    ensures formula { let steps = (places form.old.vars ones.now others.now 0 count).steps in
+        OnOk result (form.new ≡ extended form.old steps) }
 {
     let mut tally = List::new(alloc);
     'placing: for done in 0..count {
