@@ -1,0 +1,4 @@
+pub mod CalmRows
+pub mod Masks
+pub mod Walks
+pub mod Forcing
