@@ -1,5 +1,5 @@
 -- What the inputs of cells force, cell by cell in the order of ranks.
-use Rattle.std.proofs.Common.{◌≡◌, ◌≢◌, ℕ, ◌+◌, ◌<◌, ◌⊎◌, inl, inr, List, map, length, get_or, set, refl, sym, ◌∙◌, ap, subst, arith}
+use Rattle.std.proofs.Common.{◌≡◌, ◌≢◌, ℕ, ◌+◌, ◌<◌, ◌⊎◌, inl, inr, List, length, get_or, set, sym, ◌∙◌, ap, subst, arith}
 use Rattle.std.specs.Prelude.{Contains, slice_get, Some}
 use Rattle.std.proofs.lemmas.Bool.{cases_order}
 use Rattle.std.proofs.lemmas.List.{get_or-set_same, get_or-set_other, get_or-map}
@@ -9,7 +9,7 @@ use Rattle.coco_base.specs.declared.netlist.Wire.TheVariants.{Bit}
 use Rattle.coco_base.specs.declared.cell.Part.{Part}
 use Rattle.coco_base.specs.declared.cell.Part.TheVariants.{Zero}
 use Rattle.coco_model.specs.Cells.{IsForced}
-use Rattle.coco_model.specs.Netlist.{wires_of, IsCellBit}
+use Rattle.coco_model.specs.Netlist.{wires_of}
 use Rattle.coco_model.specs.Known.{Row, cell_parts, part_of}
 use Rattle.coco_model.specs.Calm.{both, IsCalm}
 use Rattle.model_laws.proofs.Forced.{on_wires-cong}

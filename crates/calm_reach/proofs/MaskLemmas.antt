@@ -12,8 +12,8 @@ use Rattle.coco_base.specs.declared.cell.Part.TheVariants.{Zero, Vary}
 use Rattle.coco_model.specs.Cells.{input_places, input_count, IsLiveInput}
 use Rattle.coco_model.specs.Known.{Row, cell_parts}
 use Rattle.coco_model.specs.Reach.{IsLive}
-use Rattle.gate_graph.proofs.Items.{place_below, same_at}
-use Rattle.calm_reach.specs.CalmRows.{Calmness, calm_of, has_place, half, live_in, is_live, AreLiveInputs}
+use Rattle.gate_graph.proofs.Items.{place_below}
+use Rattle.calm_reach.specs.CalmRows.{Calmness, calm_of, has_place, half, is_live, AreLiveInputs}
 use Rattle.calm_reach.specs.Masks.{IsLiveMask, IsMaskAt, IsPairAt}
 
 -- a number that stands for whether something holds

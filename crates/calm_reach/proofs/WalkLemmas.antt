@@ -1,10 +1,10 @@
 -- Walks against the wires: what a look at a bit adds, and that nothing is left out in the end.
-use Rattle.std.proofs.Common.{◌≡◌, ◌≢◌, ℕ, zero, suc, ◌+◌, ◌<◌, ◌≤◌, ◌⊎◌, inl, inr, Bool, true, false, not, cond, ◌||◌, nat_eq, nat_cmp, List, [], ◌∷◌, ◌++◌, length, get_or, refl, sym, ◌∙◌, ap, subst, arith}
+use Rattle.std.proofs.Common.{◌≡◌, ℕ, zero, suc, ◌+◌, ◌<◌, ◌≤◌, ◌⊎◌, inl, inr, Bool, true, false, not, cond, ◌||◌, nat_eq, nat_cmp, List, [], ◌∷◌, ◌++◌, length, get_or, refl, sym, ◌∙◌, ap, subst, arith}
 use Rattle.std.specs.Prelude.{Contains, slice_get, Some, ◌↔◌, if◌then◌else◌, IsTrue, Result, Ok, Err, OnOk, IfOk}
 use Rattle.std.specs.List.{list_any, IsDistinct}
 use Rattle.std.specs.List.Sorted.{IsStrictlyIncreasing}
 use Rattle.std.proofs.lemmas.Bool.{cases_order, cases_lt, eqb-true, eq-eqb}
-use Rattle.std.proofs.lemmas.List.{get_or_append_left, get_or_past}
+use Rattle.std.proofs.lemmas.List.{get_or_past}
 use Rattle.std.proofs.lemmas.List.Elements.{Contains-get_or}
 use Rattle.std.proofs.lemmas.Map.Steps.{length-le_from_distinct_below}
 use Rattle.std.proofs.lemmas.Map.Views.{btree_set_contains_iff}
@@ -20,7 +20,7 @@ use Rattle.coco_base.specs.declared.netlist.Wire.{Wire}
 use Rattle.coco_base.specs.declared.netlist.Wire.TheVariants.{Const, Bit}
 use Rattle.coco_base.specs.declared.cell.Part.TheVariants.{Vary}
 use Rattle.coco_model.specs.Netlist.{wires_of, IsCellBit, IsInRange, HasOneDriver}
-use Rattle.coco_model.specs.Reach.{Reaches, IsLive}
+use Rattle.coco_model.specs.Reach.{Reaches}
 use Rattle.coco_model.specs.Reach.Reaches.{here, through}
 use Rattle.coco_model.proofs.Basics.{Contains-here, Contains-later, Contains-cases, Contains-none}
 use Rattle.model_laws.proofs.Lists.{place_of_member, member_of_place}

@@ -1,5 +1,4 @@
-use Rattle.std.proofs.Common.{◌≡◌, ℕ, ◌<◌, List, length, get_or, subst}
-use Rattle.coco_base.specs.declared.cell.Part.{Part}
+use Rattle.std.proofs.Common.{ℕ, ◌<◌, length, get_or, subst}
 use Rattle.calm_reach.specs.CalmRows.{row_of, calmness_of}
 use Rattle.calm_reach.specs.Masks.{IsPairAt}
 use Rattle.calm_reach.proofs.MaskLemmas.{live_of_pairs}

@@ -1,4 +1,4 @@
-use Rattle.std.proofs.Common.{◌≡◌, ℕ, length, sym, ◌∙◌, subst, take_at}
+use Rattle.std.proofs.Common.{◌≡◌, ℕ, sym, ◌∙◌, subst, take_at}
 use Rattle.coco_model.specs.Calm.{both, IsCalm}
 use Rattle.calm_reach.specs.CalmRows.{row_of}
 use Rattle.calm_reach.proofs.ForcingLemmas.{calm_when_forced}

@@ -1,7 +1,6 @@
-use Rattle.std.proofs.Common.{◌≡◌, ◌<◌, List, length, get_or, sym, ap, subst, arith}
+use Rattle.std.proofs.Common.{◌≡◌, ◌<◌, length, get_or, subst, arith}
 use Rattle.std.specs.Prelude.{Contains, slice_get, Some}
 use Rattle.std.proofs.lemmas.List.Elements.{Contains-get_or}
-use Rattle.coco_base.specs.declared.cell.Part.{Part}
 use Rattle.coco_model.specs.Cells.{IsForced}
 use Rattle.model_laws.proofs.Lists.{member_of_place}
 use Rattle.calm_reach.proofs.ForcingLemmas.{forced_more, leaves_more}

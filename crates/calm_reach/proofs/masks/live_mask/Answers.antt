@@ -1,8 +1,4 @@
-use Rattle.std.proofs.Common.{◌≡◌, ℕ, Bool, true, false, refl, sym, ◌∙◌, ap, subst, arith}
-use Rattle.std.specs.Prelude.{IsTrue, ◌↔◌}
-use Rattle.coco_base.specs.declared.cell.Part.{Part}
-use Rattle.coco_base.specs.declared.cell.Kind.{Kind}
-use Rattle.coco_model.specs.Cells.{IsLiveInput, input_places}
+use Rattle.coco_model.specs.Cells.{input_places}
 use Rattle.coco_model.specs.Known.{cell_parts}
 use Rattle.calm_reach.specs.CalmRows.{row_of}
 use Rattle.calm_reach.proofs.MaskLemmas.{mask_of_four, few_live, tells_bool}

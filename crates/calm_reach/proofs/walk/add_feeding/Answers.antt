@@ -1,4 +1,4 @@
-use Rattle.std.proofs.Common.{◌≡◌, sym, ◌∙◌}
+use Rattle.std.proofs.Common.{sym, ◌∙◌}
 use Rattle.calm_reach.specs.Walks.{AddsFeeding, AddsInputs}
 use Rattle.calm_reach.proofs.WalkLemmas.{fed_by_cell, fed_by_none, no_cell_feeds, on_ok}
 use Rattle.calm_reach.proofs.walk.add_feeding.Goals as goal

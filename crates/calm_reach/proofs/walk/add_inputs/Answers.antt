@@ -1,6 +1,4 @@
-use Rattle.std.proofs.Common.{◌≡◌, ◌+◌, ◌≤◌, false, true, List, length, get_or, sym, ◌∙◌, ap, subst}
-use Rattle.std.specs.Prelude.{slice_get, Some}
-use Rattle.coco_base.specs.declared.netlist.FlatCell.{FlatCell}
+use Rattle.std.proofs.Common.{◌≡◌, ◌+◌, ◌≤◌, false, length, get_or, sym, ◌∙◌, ap, subst}
 use Rattle.coco_base.specs.declared.netlist.Wire.TheVariants.{Const}
 use Rattle.coco_model.specs.Netlist.{wires_of}
 use Rattle.gate_graph.proofs.Items.{same_at}

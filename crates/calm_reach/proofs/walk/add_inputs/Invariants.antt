@@ -1,7 +1,6 @@
-use Rattle.std.proofs.Common.{◌≡◌, List}
+use Rattle.std.proofs.Common.{◌≡◌}
 use Rattle.std.specs.Prelude.{slice_get, Some}
 use Rattle.coco_base.specs.declared.netlist.FlatCell.{FlatCell}
-use Rattle.coco_model.specs.Netlist.{wires_of}
 use Rattle.calm_reach.proofs.WalkLemmas.{IsPartAdded}
 use Rattle.calm_reach.proofs.walk.add_inputs.Given as goal
 

@@ -1,5 +1,4 @@
-use Rattle.std.proofs.Common.{◌≡◌, ℕ, ◌<◌, ◌≤◌, List, length, sym, ◌∙◌, subst, arith}
-use Rattle.std.specs.Prelude.{slice_get, Some}
+use Rattle.std.proofs.Common.{sym, ◌∙◌, subst, arith}
 use Rattle.model_laws.proofs.Lists.{member_of_place}
 use Rattle.gate_graph.proofs.Items.{place_below}
 use Rattle.calm_reach.specs.Walks.{AddsBit}
