@@ -1,0 +1,13 @@
+pub mod NameLemmas
+pub mod DriverLemmas
+pub mod BindLemmas
+pub mod WordLemmas
+pub mod Pigeons
+pub mod NumberLemmas
+pub mod LeafLemmas
+pub mod BoundLemmas
+pub mod ListLemmas
+pub mod LabelLemmas
+pub mod PortLemmas
+pub mod MemLemmas
+pub mod EchoLemmas
