@@ -1,0 +1,39 @@
+use Rattle.std.proofs.Common.{sym, ◌∙◌, ap}
+use Rattle.bind_run.specs.Nets.{names_of}
+use Rattle.bind_run.specs.Widened.{bits_with, first_taken, leaf_addresses, widened}
+use Rattle.bind_run.proofs.LeafLemmas.{none_taken, taken_alike, widen_fits, widen_large, widen_taken, within}
+use Rattle.bind_run.proofs.widening.widen.Goals as goal
+
+pub returns-in-Some : goal.returns-in-Some
+returns-in-Some c =
+    widen_taken c.args.flat.now c.args.labels.now.lines c.args.limits.now.bits c.in-Some.name
+    (sym (c.in_ok-name.ensures
+    ∙ ap (first_taken c.in_ok-names.names) (c.as_slice-2.ensures.value ∙ c.in_ok-addresses.ensures ∙ ap leaf_addresses c.as_slice.ensures)
+    ∙ taken_alike c.in_ok-names.names (names_of c.args.flat.now) c.in_ok-names.ensures (leaf_addresses c.args.labels.now.lines))
+    ∙ c.in-Some.is)
+
+pub returns-then-limit-count : goal.returns-then-limit-count
+returns-then-limit-count c =
+    widen_large c.args.flat.now c.args.labels.now.lines c.args.limits.now.bits c.bits_with-count.result c.from-limit.result
+    (sym (c.in_ok-name.ensures
+    ∙ ap (first_taken c.in_ok-names.names) (c.as_slice-2.ensures.value ∙ c.in_ok-addresses.ensures ∙ ap leaf_addresses c.as_slice.ensures)
+    ∙ taken_alike c.in_ok-names.names (names_of c.args.flat.now) c.in_ok-names.ensures (leaf_addresses c.args.labels.now.lines))
+    ∙ none_taken c.in_ok-name.field-0 c.in_default.not-Some)
+    (c.bits_with-count.ensures
+    ∙ ap (bits_with c.args.flat.now) (c.as_slice-3.ensures.value ∙ c.in_ok-addresses.ensures ∙ ap leaf_addresses c.as_slice.ensures))
+    c.from-limit.ensures c.if-limit-count.true
+
+pub returns : goal.returns
+returns c =
+    widen_fits c.args.flat.now c.args.labels.now.lines c.args.limits.now.bits c.in_ok-widened.field-0
+    (sym (c.in_ok-name.ensures
+    ∙ ap (first_taken c.in_ok-names.names) (c.as_slice-2.ensures.value ∙ c.in_ok-addresses.ensures ∙ ap leaf_addresses c.as_slice.ensures)
+    ∙ taken_alike c.in_ok-names.names (names_of c.args.flat.now) c.in_ok-names.ensures (leaf_addresses c.args.labels.now.lines))
+    ∙ none_taken c.in_ok-name.field-0 c.in_default.not-Some)
+    (within c.bits_with-count.result c.from-limit.result c.args.limits.now.bits
+    (bits_with c.args.flat.now (leaf_addresses c.args.labels.now.lines))
+    (c.bits_with-count.ensures
+    ∙ ap (bits_with c.args.flat.now) (c.as_slice-3.ensures.value ∙ c.in_ok-addresses.ensures ∙ ap leaf_addresses c.as_slice.ensures))
+    c.from-limit.ensures c.if-limit-count.false)
+    (c.in_ok-widened.ensures
+    ∙ ap (widened c.args.flat.now) (c.as_slice-4.ensures.value ∙ c.in_ok-addresses.ensures ∙ ap leaf_addresses c.as_slice.ensures))
