@@ -37,7 +37,8 @@ pub record HasControlsOf (setup : Setup) (i : ℕ) (mem : MemPlan) : Type 0 wher
   pub write : (w : Wire) → mem.write ≡ Some w → IsControl setup w (Requested i)
   pub enables : (w : Wire) → Contains mem.enables w → IsControl setup w (Written i)
 
--- the wires of the memory ports are controls, and so are the program counter and the asynchronous resets
+-- the requests, addresses, writes and byte enables of the memory ports are controls, and so are the program counter and
+-- the asynchronous resets; there may be more, and their order is that of the setup
 pub record HasControls (flat : Flat) (setup : Setup) : Type 0 where
   pub each : (i : ℕ) (mem : MemPlan) → slice_get setup.memories i ≡ Some mem → HasControlsOf setup i mem
   pub pc : (w : Wire) → Contains setup.pc w → IsControl setup w Always

@@ -53,12 +53,12 @@ pub record IsWhole (table : LabelTable) (labels : Labels) : Type 0 where
   pub all_or_none : (shares : List ℕ) → Contains (secret_labels table.secrets) shares → (a b : ℕ) → Contains shares a
       → Contains shares b → labels a ≡ labels b
 
--- a probe of one cycle shows a leaf in a cycle: it reaches the leaf, and the cycle is the probe's own or the one before
+-- a moment of a probe shows a leaf in a cycle: it reaches the leaf, and the cycle is the moment's own or the one before
 pub record Shows (reach : Reach) (probe : Probe) (leaf cycle : ℕ) : Type 0 where
   pub reached : Contains (reach probe.cycle probe.bit) leaf
   pub when : (cycle ≡ probe.cycle) ⊎ (suc cycle ≡ probe.cycle)
 
--- a probe of a list shows an unknown leaf in a cycle
+-- a moment of a list shows an unknown leaf in a cycle
 pub record IsSeen (row : ℕ → Row) (reach : Reach) (probes : List Probe) (pair : Probe) : Type 0 where
   pub probe : Probe
   pub listed : Contains probes probe

@@ -44,7 +44,7 @@ pub record AreLeastElsewhere (nodes : List Node) (numbers : List ℕ) : Type 0 w
   pub each : (i : ℕ) → i < length nodes → (Matters (λ j. get_or nodes j Nothing) i → ⊥)
       → IsLeastChoice (get_or numbers i 0) (get_or nodes i Nothing)
 
--- a try that chooses nothing but at nodes that matter: each other node has its least choice
+-- a try that is free at nodes that matter alone: each other node has its least choice
 pub record IsNeededTry (run : ProbedRun) (d : ℕ) (probes pairs : List Probe) (numbers : List ℕ)
     (sets : ℕ → Labels) : Type 0 where
   pub is_try : IsTry run d probes pairs numbers sets

@@ -75,9 +75,9 @@ pub record HasCellNode (index : ℕ → ℕ → ℕ) (row : ℕ → Row) (root :
   pub kept : row t c.output ≡ Vary → IsKept row root t c → node ≡ Copy (index (before t) c.output)
   pub own : row t c.output ≡ Vary → (IsKept row root t c → ⊥) → IsOwnGate (index t) (row t) c node
 
--- the nodes of a run, by cycle and bit, where word tells those of memory words: a start is nothing or a label, a later
--- leaf a copy of its source's node, where the source of a word's bit that was stored is the bit that was stored, and
--- else as above
+-- the nodes of a run, by cycle and bit, where word tells those of memory words: a start is nothing or a label; a later
+-- leaf is nothing where it is known, and else a copy of its source's node. What is stored in a word's bit is a copy of the
+-- node of the bit that was stored; a word's bit that is not stored keeps its node
 pub record IsUnrolled (flat : Flat) (setup : Setup) (cycles : ℕ) (index : ℕ → ℕ → ℕ) (row : ℕ → Row)
     (root : ℕ → ℕ → Root) (node : ℕ → ℕ → Node) (word : ℕ → ℕ → ℕ → Node) : Type 0 where
   pub cells : (t : ℕ) → t < cycles → (c : FlatCell) → Contains flat.cells c

@@ -1,5 +1,5 @@
 -- What a setup that is bound to a netlist keeps.
-use Rattle.std.specs.Prelude.{◌≡◌, ℕ, false, ◌*◌, ◌<◌, ◌≤◌, map, length, slice_get, Contains, Some, IsSome}
+use Rattle.std.specs.Prelude.{◌≡◌, ℕ, false, ◌*◌, ◌^◌, ◌<◌, ◌≤◌, map, length, slice_get, Contains, Some, IsSome}
 use Rattle.coco_base.specs.declared.netlist.Flat.{Flat}
 use Rattle.coco_base.specs.declared.netlist.FlatCell.{FlatCell}
 use Rattle.coco_base.specs.declared.netlist.FlatFlop.{FlatFlop}
@@ -96,6 +96,7 @@ pub record IsBoundTo (flat : Flat) (setup : Setup) : Type 0 where
   pub pc_below : (w : Wire) → Contains setup.pc w → IsWireBelow flat.bits w
   pub controls : HasControls flat setup
   pub controls_below : (c : ControlPlan) → Contains setup.controls c → IsWireBelow flat.bits c.wire
+  pub few_controls : length setup.controls < 2 ^ 32
   pub controls_when : (c : ControlPlan) → Contains setup.controls c → IsWhenBelow (length setup.memories) c.when
   pub clock : (b : ℕ) → setup.clock ≡ Some b → IsClock flat b
   pub bound : IsBound flat setup

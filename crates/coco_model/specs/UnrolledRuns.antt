@@ -77,7 +77,7 @@ pub record IsUnrolledOf (flat : Flat) (setup : Setup) (cycles : ℕ) (u : Unroll
   pub same_table : u.table ≡ setup.table
   pub good : IsUnrolledValue u
 
--- whether a bit is unknown, by its node: it is where the node is not nothing
+-- what a node tells of its bit: that it is known where the node is nothing, though not its value, and else that it varies
 abbrev pub node_part : Node → Part
 node_part Nothing = Zero
 node_part (Label l) = Vary
@@ -87,7 +87,7 @@ node_part (Gate kind parts operands) = Vary
 abbrev pub node_row : Unrolled → ℕ → Row
 node_row u t b = node_part (node_at u (index_of u t b))
 
--- an unrolled run as findings are written over it, for a clock, a window and what probes reach
+-- an unrolled run with a clock, a window and what probes reach: all that a finding as a value speaks of
 abbrev pub probed_run : Unrolled → Option ℕ → ℕ → Reach → ProbedRun
 probed_run u clock window reach = record {
   bits = u.bits;

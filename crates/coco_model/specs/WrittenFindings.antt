@@ -86,8 +86,8 @@ pub record IsFindingValue (run : ProbedRun) (d : ℕ) (finding : Finding) : Type
   pub written : IsWrittenFinding run d finding.probes finding.seen finding.selection.choices sets
   pub set : (l : ℕ) → has finding.set l ≡ set_of_nodes run.index sets finding.seen l
 
--- a try exists whose set shows a leak: a written finding with 0 at each node that is no gate
-pub record HasWrittenFinding (run : ProbedRun) (d : ℕ) : Type 0 where
+-- a try exists whose set shows a leak
+pub record HasLeakingTry (run : ProbedRun) (d : ℕ) : Type 0 where
   pub probes : List Probe
   pub pairs : List Probe
   pub numbers : List ℕ

@@ -71,7 +71,6 @@ StandsAt sim (suc t) =
 pub record IsSimulation (sim : Simulation) : Type 0 where
   pub built : IsBuilt sim.gates
   pub bound : IsBoundTo sim.gates.flat sim.setup
-  pub few_controls : length sim.setup.controls < 2 ^ 32
   pub known_long : length sim.known ≡ sim.gates.flat.bits
   pub old_long : length sim.old ≡ sim.gates.flat.bits
   pub stands : StandsAt sim sim.cycles

@@ -37,8 +37,7 @@ impl<'a> Sim<'a> {
 
     /// A simulation that stands before the first cycle. After it no call takes memory.
     pub fn new(alloc: Global, graph: &'a Graph, setup: &'a Setup) -> Result<Self, NoMemory>
-        requires bound { IsBoundTo graph.now.flat setup.now }
-        requires controls { length setup.now.controls < 2 ^ 32 }
+        requires { IsBoundTo graph.now.flat setup.now }
         ensures { IfOk result (IsNewSimulation graph.now setup.now) }
     {
         let bits = graph.bits() as usize;

@@ -21,7 +21,7 @@ use Rattle.coco_model.specs.Labels.{parity}
 use Rattle.coco_model.specs.Secure.{IsProbe, moments}
 use Rattle.coco_model.specs.Findings.{Labels, IsWhole, IsSeen}
 use Rattle.coco_model.specs.Nodes.{IsGateChoice, IsAllowedChoice, node_set, IsNodeSelection}
-use Rattle.coco_model.specs.WrittenFindings.{IsNoGate, set_of_nodes, HasWrittenFinding}
+use Rattle.coco_model.specs.WrittenFindings.{IsNoGate, set_of_nodes, HasLeakingTry}
 use Rattle.coco_model.specs.UnrolledRuns.{index_of, node_at, node_row, IsGoodNode, IsUnrolledValue}
 use Rattle.coco_model.specs.Matters.{Matters, AreMattering, IsLeastChoice, HasNeededTry}
 use Rattle.cell_table.proofs.Sums.{length-input_places}
@@ -230,7 +230,7 @@ module _ (u : Unrolled) (good : IsUnrolledValue u) (number : ℕ → ℕ)
 -- ---- a try that chooses nothing else
 
 module _ (flat : Flat) (setup : Setup) (cycles : ℕ) (run : UnrolledRun flat setup cycles) (window d : ℕ) (matters : ℕ → Bool)
-    (tell : AreMattering run.unrolled.nodes matters) (w : HasWrittenFinding (seen_run flat setup cycles run window) d) where
+    (tell : AreMattering run.unrolled.nodes matters) (w : HasLeakingTry (seen_run flat setup cycles run window) d) where
   count : ℕ
   count = length run.unrolled.nodes
 

@@ -116,6 +116,7 @@ bound_to name = record {
     resets = only_member (λ (f : FlatFlop). (w : Wire) → f.reset ≡ Some w → _) (keeper name 1) (λ w e. absurd cc);
   };
   controls_below = λ c h. absurd (Contains-none c h);
+  few_controls = lit≤ tt;
   controls_when = λ c h. absurd (Contains-none c h);
   clock = clock name;
   bound = record { each = λ b h. h; only = λ b h. h; once = ((λ h. Contains-none 0 h), tt) };

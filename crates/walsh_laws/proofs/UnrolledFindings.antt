@@ -25,7 +25,7 @@ use Rattle.coco_model.specs.Reach.{Reaches}
 use Rattle.coco_model.specs.Reach.Reaches.{here, through}
 use Rattle.coco_model.specs.Secure.{IsProbe, moments}
 use Rattle.coco_model.specs.Findings.{Labels, IsSeen, HasFinding}
-use Rattle.coco_model.specs.WrittenFindings.{ProbedRun, IsNoGate, IsCandidate, IsWrittenFinding, HasWrittenFinding}
+use Rattle.coco_model.specs.WrittenFindings.{ProbedRun, IsNoGate, IsCandidate, IsWrittenFinding, HasLeakingTry}
 use Rattle.coco_model.specs.UnrolledRuns.{rank_of, index_of, node_at, node_row, IsGoodNode, IsUnrolledValue}
 use Rattle.coco_model.proofs.Basics.{Contains-here, Contains-later, Contains-cases, Contains-none}
 use Rattle.model_laws.proofs.Lists.{contains_or_not}
@@ -311,11 +311,11 @@ module _ (flat : Flat) (setup : Setup) (cycles : ℕ) (run : UnrolledRun flat se
     selection = c.selection;
   }
 
-  pub some_try : (window d : ℕ) → HasFinding flat setup cycles window d → HasWrittenFinding (seen_run flat setup cycles run window) d
+  pub some_try : (window d : ℕ) → HasFinding flat setup cycles window d → HasLeakingTry (seen_run flat setup cycles run window) d
   unfolding WritingLaw listed known_run node_run
-  some_try window d h = subst (λ r. HasWrittenFinding r d) (sym (same_run window)) (go (writing_law flat setup cycles listed window d h))
+  some_try window d h = subst (λ r. HasLeakingTry r d) (sym (same_run window)) (go (writing_law flat setup cycles listed window d h))
     where
-      go : HasWrittenFinding (known_run window) d → HasWrittenFinding (node_run window) d
+      go : HasLeakingTry (known_run window) d → HasLeakingTry (node_run window) d
       go w = record {
         probes = w.probes;
         pairs = w.pairs;

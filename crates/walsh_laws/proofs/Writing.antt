@@ -17,7 +17,7 @@ use Rattle.coco_model.specs.Secure.{IsProbe, moments}
 use Rattle.coco_model.specs.Roots.{Root}
 use Rattle.coco_model.specs.Findings.{Labels, IsWhole, set_of_pairs, HasFinding}
 use Rattle.coco_model.specs.Nodes.{IsNodeSet, IsAllowedChoice, node_set, IsNodeSelection}
-use Rattle.coco_model.specs.WrittenFindings.{set_of_nodes, IsWrittenFinding, HasWrittenFinding}
+use Rattle.coco_model.specs.WrittenFindings.{set_of_nodes, IsWrittenFinding, HasLeakingTry}
 use Rattle.model_laws.proofs.Windows.{moments-probes, seen_by_more}
 use Rattle.model_laws.proofs.Selected.{node_sets_law, root_sets_law}
 use Rattle.model_laws.specs.Laws.{NodeSetsLaw, RootSetsLaw, HasSelection}
@@ -110,7 +110,7 @@ module _ (flat : Flat) (setup : Setup) (cycles : ℕ) (rank : ℕ → ℕ) (row 
           ap (λ s. set_of (root s p.bit) l) (sym e.0) ∙ ap (λ c. set_of (root t c) l) (sym e.1)
 
   pub written_from : (window d : ℕ) → HasFindingOver flat setup cycles window d row reach root
-      → HasWrittenFinding (probed_with flat setup cycles window row reach index nodes) d
+      → HasLeakingTry (probed_with flat setup cycles window row reach index nodes) d
   unfolding NodeSetsLaw set_at are_reached
   written_from window d h = go (sorted h.probes h.finding.different) (sorted h.pairs h.finding.once)
     where
@@ -163,7 +163,7 @@ module _ (flat : Flat) (setup : Setup) (cycles : ℕ) (rank : ℕ → ℕ) (row 
       all : (p : Probe) → Contains lasts p → IsProbe flat.bits setup.clock cycles p
       all = moments-probes flat.bits setup.clock cycles window h.probes h.finding.each
 
-      go : HasSorted h.probes → HasSorted h.pairs → HasWrittenFinding (probed_with flat setup cycles window row reach index nodes) d
+      go : HasSorted h.probes → HasSorted h.pairs → HasLeakingTry (probed_with flat setup cycles window row reach index nodes) d
       go ps us = record {
         probes = ps.probes;
         pairs = us.probes;

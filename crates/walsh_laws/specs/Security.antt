@@ -69,7 +69,7 @@ RunCorrelationLaw =
     → (labels : Labels) → ((l : ℕ) → label_count setup.table cycles ≤ l → labels l ≡ false)
     → correlation setup cycles pairs labels run ≢ pos 0 → IsSetOfPairs flat cycles sim.row root pairs labels
 
--- pairs that probes show and that are unknown correlate with no secret bits: with no set of labels that is not empty
+-- pairs that moments show and that are unknown correlate with no secret bits: with no set of labels that is not empty
 -- and has all shares or none of each secret bit, and nothing else
 pub record IsRunUncorrelated (setup : Setup) (cycles : ℕ) (row : ℕ → Row) (reach : Reach) (run : Choice → ℕ → Valuation)
     (probes : List Probe) : Type 0 where

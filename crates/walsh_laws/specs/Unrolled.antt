@@ -12,7 +12,7 @@ use Rattle.coco_model.specs.Netlist.{IsRanked, HasOneDriver, IsInRange}
 use Rattle.coco_model.specs.Setups.{IsBoundTo}
 use Rattle.coco_model.specs.Reach.{Reach, IsReach}
 use Rattle.coco_model.specs.Findings.{Labels, HasFinding}
-use Rattle.coco_model.specs.WrittenFindings.{ProbedRun, IsWrittenFinding, HasWrittenFinding}
+use Rattle.coco_model.specs.WrittenFindings.{ProbedRun, IsWrittenFinding, HasLeakingTry}
 use Rattle.coco_model.specs.Matters.{AreMattering, IsLeastChoice, HasNeededTry}
 use Rattle.coco_model.specs.UnrolledRuns.{IsUnrolledOf, probed_run}
 
@@ -37,7 +37,7 @@ seen_run flat setup cycles run window = probed_run run.unrolled setup.clock wind
 unfoldable pub SomeTryLaw : Type 0
 SomeTryLaw =
     (flat : Flat) (setup : Setup) (cycles : ℕ) (run : UnrolledRun flat setup cycles) (window d : ℕ)
-    → HasFinding flat setup cycles window d → HasWrittenFinding (seen_run flat setup cycles run window) d
+    → HasFinding flat setup cycles window d → HasLeakingTry (seen_run flat setup cycles run window) d
 
 -- a written finding over the unrolled run is a finding
 unfoldable pub TryFindsLaw : Type 0

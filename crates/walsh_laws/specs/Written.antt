@@ -12,7 +12,7 @@ use Rattle.coco_model.specs.Reach.{Reach, IsReach}
 use Rattle.coco_model.specs.Roots.{Root, IsRooted}
 use Rattle.coco_model.specs.Findings.{Labels, HasFinding}
 use Rattle.coco_model.specs.Nodes.{AreNodesOf}
-use Rattle.coco_model.specs.WrittenFindings.{ProbedRun, IsWrittenFinding, HasWrittenFinding}
+use Rattle.coco_model.specs.WrittenFindings.{ProbedRun, IsWrittenFinding, HasLeakingTry}
 use Rattle.walsh_laws.specs.Security.{IsSimulated}
 
 -- the place of a bit in a cycle in a list of nodes
@@ -76,7 +76,7 @@ probed_by flat setup cycles run window = probed_with flat setup cycles window ru
 unfoldable pub WritingLaw : Type 0
 WritingLaw =
     (flat : Flat) (setup : Setup) (cycles : ℕ) (run : ListedRun flat setup cycles) (window d : ℕ)
-    → HasFinding flat setup cycles window d → HasWrittenFinding (probed_by flat setup cycles run window) d
+    → HasFinding flat setup cycles window d → HasLeakingTry (probed_by flat setup cycles run window) d
 
 -- a written finding is a finding
 unfoldable pub ReadingLaw : Type 0

@@ -17,7 +17,6 @@ invariant_of-self c =
     record {
       built = c.self.invariant.built;
       bound = c.self.invariant.bound;
-      few_controls = c.self.invariant.few_controls;
       known_long = c.make_cycle.ensures.known;
       old_long = c.make_cycle.ensures.before;
       stands = stands_more (simulation_of g setup (t + 1) c.make_cycle.new.rows fault) t (t + 1) (omega arith) c.make_cycle.ensures.at
