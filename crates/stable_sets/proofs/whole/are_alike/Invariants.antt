@@ -1,0 +1,9 @@
+use Rattle.std.proofs.Common.{◌≡◌, ℕ, ◌<◌}
+use Rattle.std.specs.Prelude.{slice_get, Some}
+use Rattle.coco_base.specs.declared.labels.SecretPlan.{SecretPlan}
+use Rattle.coco_base.specs.LabelSets.{has}
+use Rattle.stable_sets.specs.Shares.{AllAlike}
+use Rattle.stable_sets.proofs.whole.are_alike.Given as goal
+
+abbrev pub invariant-secrets : goal.invariant-secrets
+invariant-secrets l = (k : ℕ) (s : SecretPlan) → k < l.place → slice_get l.secrets k ≡ Some s → AllAlike s (has l.set)

@@ -1,0 +1,5 @@
+pub mod Chosen
+pub mod Reached
+pub mod Listed
+pub mod Shares
+pub mod Shown

@@ -1,0 +1,13 @@
+//! Selections of nodes and the sets that they give, and whether a value is a finding.
+#![tactic(auto)]
+
+mod choice;
+mod finding;
+mod order;
+mod pairs;
+mod sets;
+mod whole;
+
+pub use choice::allowed;
+pub use finding::{Rows, is_bad};
+pub use sets::follow;
