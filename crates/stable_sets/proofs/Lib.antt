@@ -5,3 +5,4 @@ pub mod ShareLemmas
 pub mod FindingLemmas
 pub mod PairLemmas
 pub mod TellsLemmas
+pub mod MadeRuns

@@ -32,7 +32,7 @@ has_of_member l (x ∷ xs) h = go (Contains-cases x l xs h) (λ i. has_of_member
     go (inr i) later = right (nat_eq l x) (has xs l) (later i)
 
 -- the numbers of a range from 0
-below_of_range : (from count n : ℕ) → Contains (range_with_len from count) n → n < from + count
+pub below_of_range : (from count n : ℕ) → Contains (range_with_len from count) n → n < from + count
 below_of_range from zero n h = absurd (Contains-none n h)
 below_of_range from (suc count) n h = go (Contains-cases from n (range_with_len (from + 1) count) h)
     (λ i. below_of_range (from + 1) count n i)
@@ -42,7 +42,7 @@ below_of_range from (suc count) n h = go (Contains-cases from n (range_with_len 
     go (inl e) rest = omega (arith, e)
     go (inr i) rest = let b = rest i in omega (arith, b)
 
-in_range : (from count n : ℕ) → from ≤ n → n < from + count → Contains (range_with_len from count) n
+pub in_range : (from count n : ℕ) → from ≤ n → n < from + count → Contains (range_with_len from count) n
 in_range from zero n least below = absurd (omega (arith, least, below))
 in_range from (suc count) n least below = go (cases_eq from n) (λ l. in_range (from + 1) count n l (omega (arith, below)))
   where

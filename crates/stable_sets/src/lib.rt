@@ -6,6 +6,8 @@ mod finding;
 mod order;
 mod pairs;
 mod sets;
+#[cfg(test)]
+mod tests;
 mod whole;
 
 pub use choice::allowed;
