@@ -6,3 +6,4 @@ pub mod FindingLemmas
 pub mod PairLemmas
 pub mod TellsLemmas
 pub mod MadeRuns
+pub mod ReachLemmas

@@ -6,6 +6,7 @@ use Rattle.coco_base.specs.declared.finding.Finding.{Finding}
 use Rattle.coco_model.specs.Reach.{Reach, IsReachedRow}
 use Rattle.coco_model.specs.UnrolledRuns.{probed_run}
 use Rattle.coco_model.specs.WrittenFindings.{IsFindingValue}
+use Rattle.gate_graph.specs.Graphs.{Gates, IsBuilt}
 use Rattle.calm_reach.specs.CalmRows.{Calmness, HasPlaces, AreLiveInputs, calm_of}
 use Rattle.calm_reach.specs.Walks.{AreLeavesOf}
 
@@ -35,3 +36,15 @@ abbrev pub TellsCalmFinding : Flat → Unrolled → List Calmness → Option ℕ
 TellsCalmFinding flat u rows clock window d finding answer =
     (reach : Reach) → AreCalmReach flat rows reach
     → IsTrue answer ↔ IsFindingValue (probed_run u clock window reach) d finding
+
+-- what probes reach by calm rows
+pub record HasCalmReach (flat : Flat) (rows : List Calmness) : Type 0 where
+  pub reach : Reach
+  pub is : AreCalmReach flat rows reach
+
+-- calm rows of the graph of a netlist have a reach
+unfoldable pub ReachLaw : Type 0
+ReachLaw =
+    (gates : Gates) → IsBuilt gates → (rows : List Calmness)
+    → ((t : ℕ) (row : Calmness) → slice_get rows t ≡ Some row → AreLiveInputs gates.flat row)
+    → HasCalmReach gates.flat rows

@@ -3,6 +3,7 @@
 
 mod choice;
 mod finding;
+pub mod laws;
 mod order;
 mod pairs;
 mod sets;
