@@ -1,5 +1,5 @@
 -- A cause answers the outcome that has it.
-use Rattle.std.proofs.Common.{◌≡◌, Result, Err, refl}
+use Rattle.std.proofs.Common.{◌≡◌, Result, Err}
 use Rattle.label_file.specs.declared.cause.Cause.{Cause}
 use Rattle.label_file.specs.declared.cause.Cause.TheVariants.{BadLine, Twice, UnknownSecret, ShareRange, TooMany, Memory}
 use Rattle.label_file.specs.Causes.{Fails}

@@ -1,5 +1,5 @@
 -- Reading lines one after the other.
-use Rattle.std.proofs.Common.{◌≡◌, ◌+◌, ℕ, true, List, ◌∷◌, Some, Result, Ok, Err, refl, sym, ◌∙◌, ap}
+use Rattle.std.proofs.Common.{◌≡◌, ◌+◌, ℕ, true, List, ◌∷◌, Some, Ok, Err, refl, sym, ◌∙◌, ap}
 use Rattle.std.specs.Str.{is_utf8}
 use Rattle.coco_base.specs.Texts.{words}
 use Rattle.label_file.specs.declared.form.Form.{Form}

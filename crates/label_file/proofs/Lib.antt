@@ -1,5 +1,13 @@
 mod CauseLemmas
 mod FileLemmas
+mod FormCounts
+mod Grids
+mod Kept
+mod KeptReadings
+mod Members
 mod NameLemmas
+mod NextLines
 mod Rooms
+mod Rows
+mod Tables
 mod ValueLemmas

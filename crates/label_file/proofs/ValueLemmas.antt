@@ -1,10 +1,8 @@
 -- The values of words, read one by one.
-use Rattle.std.proofs.Common.{◌≡◌, ◌∷◌, ◌++◌, [], List, ℕ, Result, Ok, Err, refl, ap, append_assoc, sym, ◌∙◌}
+use Rattle.std.proofs.Common.{◌≡◌, ◌∷◌, ◌++◌, [], List, Result, Ok, Err, refl, ap, append_assoc, sym}
 use Rattle.label_file.specs.declared.cause.Cause.{Cause}
 use Rattle.label_file.specs.declared.line.LabelValue.{LabelValue}
 use Rattle.label_file.specs.Causes.{◌>>=◌}
-use Rattle.label_file.specs.Names.{Table}
-use Rattle.label_file.specs.Values.{value_of, values_in}
 
 -- values before those of an outcome
 abbrev pub behind : List LabelValue → Result (List LabelValue) Cause → Result (List LabelValue) Cause

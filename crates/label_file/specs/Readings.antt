@@ -1,9 +1,7 @@
 -- What the lines so far say, and what a line adds to it.
-use Rattle.std.specs.Prelude.{◌≡◌, ℕ, ◌+◌, ◌*◌, ◌==◌, nat_le, Bool, true, false, if◌then◌else◌, List, [], ◌∷◌, ◌++◌, Option, Some, None, Result, Ok, Err}
+use Rattle.std.specs.Prelude.{◌≡◌, ℕ, ◌+◌, ◌*◌, ◌==◌, nat_le, Bool, false, if◌then◌else◌, List, [], ◌∷◌, ◌++◌, None, Result, Ok, Err}
 use Rattle.std.specs.List.{list_any}
 use Rattle.coco_base.specs.declared.labels.LabelTable.{LabelTable}
-use Rattle.coco_base.specs.declared.labels.MaskPlan.{MaskPlan}
-use Rattle.coco_base.specs.declared.labels.SecretPlan.{SecretPlan}
 use Rattle.label_file.specs.declared.cause.Cause.{Cause}
 use Rattle.label_file.specs.declared.cause.Cause.TheVariants.{TooMany}
 use Rattle.label_file.specs.declared.line.LabelLine.{LabelLine}

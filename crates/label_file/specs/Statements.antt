@@ -1,5 +1,5 @@
 -- The line that a form makes of its operands, after the lines so far: what may be at fault in it, in order.
-use Rattle.std.specs.Prelude.{ℕ, ◌==◌, Bool, true, false, not, if◌then◌else◌, List, [], ◌∷◌, drop, slice_index_or, Option, is_none, Result, Ok, codes}
+use Rattle.std.specs.Prelude.{ℕ, Bool, true, false, not, if◌then◌else◌, List, [], drop, slice_index_or, is_none, Result, Ok, codes}
 use Rattle.std.specs.List.{list_any}
 use Rattle.std.specs.Str.{bytes_eq}
 use Rattle.label_file.specs.declared.cause.Cause.{Cause}

@@ -1,8 +1,8 @@
 -- Values: numbers, and labels of names that lines before declare.
-use Rattle.std.specs.Prelude.{◌≡◌, ℕ, ◌+◌, ◌*◌, ◌≤◌, Bool, true, false, if◌then◌else◌, List, [], ◌∷◌, Option, Some, None, Result, Ok, Err}
+use Rattle.std.specs.Prelude.{ℕ, ◌+◌, ◌*◌, ◌≤◌, Bool, true, false, if◌then◌else◌, List, [], ◌∷◌, Option, Some, None, Result, Ok, Err}
 use Rattle.std.specs.List.{list_any}
 use Rattle.label_file.specs.declared.cause.Cause.{Cause}
-use Rattle.label_file.specs.declared.cause.Cause.TheVariants.{BadLine, Twice, UnknownSecret, ShareRange, TooMany, Memory}
+use Rattle.label_file.specs.declared.cause.Cause.TheVariants.{BadLine, UnknownSecret}
 use Rattle.label_file.specs.declared.line.LabelValue.{LabelValue}
 use Rattle.label_file.specs.declared.line.LabelValue.TheVariants.{Number, Bits}
 use Rattle.label_file.specs.declared.names.Meaning.{Meaning}

@@ -4,6 +4,7 @@ ghost use Rattle.std.specs.Str.{is_utf8};
 ghost use Rattle.std.specs.Str.Lines.{lines};
 ghost use Rattle.coco_base.specs.Texts.{texts};
 ghost use Rattle.label_file.specs.Causes.{Answers};
+ghost use Rattle.label_file.specs.Conditions.{AreLabels};
 ghost use Rattle.label_file.specs.Files.{IsFaultOf, after_form, after_line, after_words, before_comment, begins_comment, is_second, labels_of, stands, words_of};
 ghost use Rattle.label_file.specs.Values.{HaveRoom};
 
@@ -138,6 +139,7 @@ pub fn read_labels(alloc: Global, bytes: &[u8], limits: &Limits) -> Result<Label
     requires size { length bytes.now < 2 ^ 32 }
     requires limits { limits.now.labels ≤ 4096 }
     ensures labels { IfOk result (λ l. labels_of limits.now.labels (lines bytes.now) ≡ Ok l) }
+    ensures kept { IfOk result AreLabels }
     ensures fault { IfErr result (IsFaultOf (labels_of limits.now.labels (lines bytes.now))) }
 {
     let mut reading = Reading::new(alloc);
