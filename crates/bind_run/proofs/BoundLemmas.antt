@@ -36,20 +36,20 @@ pub record IsGrown (flat : Flat) (bits : List ℕ) (more : ℕ) (after : List �
   pub are : AreBits flat after
   pub long : length bits + more ≤ length after
 
-record Passed {A : Type 0} (t : Bool) (r : Result A BindFault) (x : A) : Type 0 where
-  held : t ≡ true
-  gave : r ≡ Ok x
+pub record Passed {A : Type 0} (t : Bool) (r : Result A BindFault) (x : A) : Type 0 where
+  pub held : t ≡ true
+  pub gave : r ≡ Ok x
 
 -- a test that had to hold did, and one that had to fail did
-passed : {A : Type 0} (t : Bool) (r : Result A BindFault) (f : BindFault) (x : A) → cond t r (Err f) ≡ Ok x → Passed t r x
+pub passed : {A : Type 0} (t : Bool) (r : Result A BindFault) (f : BindFault) (x : A) → cond t r (Err f) ≡ Ok x → Passed t r x
 passed true r f x e = record { held = refl; gave = e }
 passed false r f x e = absurd cc
 
-record Failed {A : Type 0} (t : Bool) (r : Result A BindFault) (x : A) : Type 0 where
-  failed : t ≡ false
-  gave : r ≡ Ok x
+pub record Failed {A : Type 0} (t : Bool) (r : Result A BindFault) (x : A) : Type 0 where
+  pub failed : t ≡ false
+  pub gave : r ≡ Ok x
 
-failed_test : {A : Type 0} (t : Bool) (r : Result A BindFault) (f : BindFault) (x : A) → cond t (Err f) r ≡ Ok x → Failed t r x
+pub failed_test : {A : Type 0} (t : Bool) (r : Result A BindFault) (f : BindFault) (x : A) → cond t (Err f) r ≡ Ok x → Failed t r x
 failed_test true r f x e = absurd cc
 failed_test false r f x e = record { failed = refl; gave = e }
 

@@ -1,7 +1,6 @@
 -- The labels of a file may be bound.
 use Rattle.std.proofs.Common.{ℕ, ◌+◌, ◌<◌, ◌≤◌, ◌^◌, List, [], ◌∷◌, cond, length, arith}
 use Rattle.std.specs.List.{count_by}
-use Rattle.std.proofs.lemmas.List.{length-append}
 use Rattle.std.proofs.lemmas.List.Elements.{All-weaker}
 use Rattle.std.proofs.lemmas.List.Sums.{sum_by-cons}
 use Rattle.label_file.specs.declared.line.LabelLine.{LabelLine}
@@ -9,9 +8,8 @@ use Rattle.label_file.specs.declared.line.LabelLine.TheVariants as line
 use Rattle.label_file.specs.declared.line.LabelValue.{LabelValue}
 use Rattle.label_file.specs.declared.line.LabelValue.TheVariants.{Number, Bits}
 use Rattle.label_file.specs.declared.line.Labels.{Labels}
-use Rattle.label_file.specs.Conditions.{AreLabels, IsLine, IsValue, named_leaves}
+use Rattle.label_file.specs.Conditions.{AreLabels, IsLine, IsValue}
 use Rattle.label_file.specs.Statements.{is_dmem, is_imem}
-use Rattle.bind_run.specs.Conditions.{CanBind}
 use Rattle.bind_run.specs.Controls.{port_count, ports_count}
 use Rattle.bind_run.specs.Values.{HasRoom, HaveRoom, LineHasRoom}
 use Rattle.bind_run.specs.Widened.{leaf_addresses}
@@ -41,38 +39,13 @@ ports_few (l ∷ ls) =
     let d = sum_by-cons (λ x. cond (is_dmem x) 1 0) l ls in
     omega arith
 
-one_port : (l : LabelLine) → port_count l ≤ 1
-one_port (line.Imem request address answer) = omega arith
-one_port (line.Dmem request write enables address value answer) = omega arith
-one_port l = omega arith
+-- the labels of values have room
+pub labels_room : (labels : Labels) → AreLabels labels → HaveRoom labels.lines
+labels_room labels are = All-weaker (IsLine labels.table.declared) LineHasRoom (line_room labels.table.declared are.table.few) labels.lines are.lines
 
-ports_within : (ls : List LabelLine) → ports_count ls ≤ length ls
-ports_within [] = omega arith
-ports_within (l ∷ ls) = let h = ports_within ls in let o = one_port l in omega arith
+-- there are at most two memory ports
+pub labels_ports : (labels : Labels) → AreLabels labels → ports_count labels.lines < 2 ^ 32
+labels_ports labels are = let p = ports_few labels.lines in let a = are.once.imem in let b = are.once.dmem in omega arith
 
-one_leaf : (l : LabelLine) → length (named_leaves l) ≤ 1
-one_leaf (line.Leaf address) = omega arith
-one_leaf l = omega arith
-
-leaves_within : (ls : List LabelLine) → length (leaf_addresses ls) ≤ length ls
-leaves_within [] = omega arith
-leaves_within (l ∷ ls) =
-    let h = leaves_within ls in
-    let o = one_leaf l in
-    let e = length-append (named_leaves l) (leaf_addresses ls) in
-    omega arith
-
--- few lines whose labels have room may be bound
-pub room_binds : (labels : Labels) → length labels.lines < 2 ^ 32 → HaveRoom labels.lines → CanBind labels
-room_binds labels few room = record {
-  room = room;
-  ports = let p = ports_within labels.lines in omega arith;
-  leaves = let l = leaves_within labels.lines in omega arith;
-}
-
-pub can_bind : (labels : Labels) → AreLabels labels → CanBind labels
-can_bind labels are = record {
-  room = All-weaker (IsLine labels.table.declared) LineHasRoom (line_room labels.table.declared are.table.few) labels.lines are.lines;
-  ports = let p = ports_few labels.lines in let a = are.once.imem in let b = are.once.dmem in omega arith;
-  leaves = let f = few_leaves labels are in omega arith;
-}
+pub labels_leaves : (labels : Labels) → AreLabels labels → length (leaf_addresses labels.lines) < 2 ^ 32
+labels_leaves labels are = let f = few_leaves labels are in omega arith

@@ -15,4 +15,3 @@ pub mod WordPlans
 pub mod SetupParts
 pub mod Widened
 pub mod Outcomes
-pub mod Conditions

@@ -1,6 +1,7 @@
 //! Binding: the setup of a run, or the first fault.
-ghost use Rattle.std.specs.Prelude.{◌≡◌, ◌<◌, ◌^◌, IfOk, IfErr};
-ghost use Rattle.bind_run.specs.Conditions.{CanBind};
+ghost use Rattle.std.specs.Prelude.{◌≡◌, ◌<◌, ◌^◌, length, IfOk, IfErr};
+ghost use Rattle.coco_model.specs.Setups.{IsBoundTo};
+ghost use Rattle.label_file.specs.Conditions.{AreLabels};
 ghost use Rattle.bind_run.specs.Controls.{ports_count};
 ghost use Rattle.bind_run.specs.Inputs.{fresh_count};
 ghost use Rattle.bind_run.specs.Binding.{bound_by};
@@ -76,7 +77,8 @@ impl Circuit<'_> {
         requires room { HaveRoom labels.now.lines }
         requires fresh { fresh_count self.now.flat labels.now.lines < 2 ^ 32 }
         requires ports { ports_count labels.now.lines < 2 ^ 32 }
-        ensures { IfOk result (λ setup. setup ≡ setup_of self.now.flat image.now labels.now) }
+        ensures setup { IfOk result (λ setup. setup ≡ setup_of self.now.flat image.now labels.now) }
+        ensures few { IfOk result (λ setup. length setup.controls < 2 ^ 32) }
     {
         let lines = labels.lines.as_slice();
         let words = words_of(alloc, image, lines)?;
@@ -113,9 +115,10 @@ impl Circuit<'_> {
         labels: &Labels,
         bound: &Bound,
     ) -> Result<Setup, BindFault>
-        requires labels { CanBind labels.now }
+        requires labels { AreLabels labels.now }
         requires bound { bound_by self.now.flat self.now.clock labels.now.lines ≡ Ok bound.now }
         ensures setup { IfOk result (IsSetupOf self.now.flat self.now.clock image.now labels.now) }
+        ensures bound { IfOk result (IsBoundTo self.now.flat) }
         ensures fault { IfErr result (IsBindFault self.now.flat self.now.clock labels.now) }
     {
         let _bits = self.bits();
@@ -130,7 +133,8 @@ impl Circuit<'_> {
 }
 
 /// The setup of a run: what the lines of a label file say of the bits of a netlist, with the words of a program; or the
-/// first fault, line by line and net by net, and then the least input port bit that no line binds.
+/// first fault, line by line and net by net, and then the least input port bit that no line binds. The numbers of controls
+/// are numbers of 32 bits: more of them count as want of memory.
 pub fn bind(
     alloc: Global,
     graph: &Graph,
@@ -139,8 +143,9 @@ pub fn bind(
     labels: &Labels,
 ) -> Result<Setup, BindFault>
     requires graph { IsGraphOf flat.now graph.now }
-    requires labels { CanBind labels.now }
+    requires labels { AreLabels labels.now }
     ensures setup { IfOk result (IsSetupOf flat.now graph.now.clock image.now labels.now) }
+    ensures bound { IfOk result (IsBoundTo flat.now) }
     ensures fault { IfErr result (IsBindFault flat.now graph.now.clock labels.now) }
 {
     let Ok(circuit) = Circuit::new(alloc, graph, flat) else {

@@ -165,20 +165,24 @@ impl Circuit<'_> {
         Ok(plans)
     }
 
-    /// The controls of lines, and then the asynchronous resets.
+    /// The controls of lines, and then the asynchronous resets. A list of them has numbers of 32 bits for its places.
     pub(crate) fn controls_of(
         &self,
         alloc: Global,
         lines: &[LabelLine],
     ) -> Result<List<ControlPlan>, NoMemory>
         requires { ports_count lines.now < 2 ^ 32 }
-        ensures { IfOk result (λ plans. plans ≡ controls_of self.now.flat lines.now) }
+        ensures controls { IfOk result (λ plans. plans ≡ controls_of self.now.flat lines.now) }
+        ensures few { IfOk result (λ plans. length plans < 2 ^ 32) }
     {
         let mut plans = self.lines_controls(alloc, lines)?;
         let _bits = self.bits();
         let flat = self.flat();
         let names = names_of_bits(alloc, flat)?;
         push_resets(alloc, &mut plans, flat, names.as_slice())?;
+        if plans.len() >= 1 << 32 {
+            return Err(NoMemory);
+        }
         Ok(List::from_vec(plans))
     }
 }

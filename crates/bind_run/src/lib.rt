@@ -4,7 +4,6 @@
 mod binding;
 mod bound;
 mod circuit;
-mod conditions;
 mod controls;
 mod copies;
 mod fault;
@@ -25,7 +24,6 @@ mod widening;
 mod word_plans;
 
 pub use binding::bind;
-pub use conditions::{can_bind, labels_law};
 pub use fault::BindFault;
 pub use widening::widen;
 

@@ -1,7 +1,7 @@
 //! Binding label files to a small circuit.
-ghost use Rattle.bind_run.specs.Conditions.{CanBind};
+ghost use Rattle.label_file.specs.Conditions.{AreLabels};
 
-use crate::{BindFault, bind, can_bind, widen};
+use crate::{BindFault, bind, widen};
 use coco_base::{
     Flat, FlatFlop, FlatNet, FlatPort, Limits, List, NoMemory, Setup, Start, Text, When, Wire,
 };
@@ -112,14 +112,12 @@ fn image(alloc: Global) -> Result<Image, AllocError> {
 }
 
 fn labels(rt: &impl Abort, alloc: Global, file: &[u8]) -> Labels
-    ensures { CanBind result }
+    ensures { AreLabels result }
 {
     assert!(rt; file.len() < 16_000_000);
     let read = read_labels(alloc, file, &Limits::usual());
     assert!(rt; read.is_ok());
-    let labels = read.expect(rt, "labels");
-    assert!(rt; can_bind(&labels));
-    labels
+    read.expect(rt, "labels")
 }
 
 fn bound(rt: &impl Abort, alloc: Global, file: &[u8]) -> Result<Result<Setup, BindFault>, Fail> {

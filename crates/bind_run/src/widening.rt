@@ -5,7 +5,7 @@ ghost use Rattle.std.specs.Ordering.{is_lt, nat_cmp};
 ghost use Rattle.std.specs.List.{insert, range_with_len};
 ghost use Rattle.coco_base.specs.declared.netlist.FlatPort.{FlatPort};
 ghost use Rattle.coco_base.specs.declared.netlist.Wire.TheVariants.{Bit};
-ghost use Rattle.bind_run.specs.Conditions.{CanBind};
+ghost use Rattle.label_file.specs.Conditions.{AreLabels};
 ghost use Rattle.bind_run.specs.Causes.{Answers};
 ghost use Rattle.bind_run.specs.Widened.{bits_with, first_taken, leaf_addresses, leaf_bits, leaf_port, widened, widened_by, with_leaves, with_port};
 
@@ -168,7 +168,7 @@ pub fn widen(
     labels: &Labels,
     limits: &Limits,
 ) -> Result<Flat, BindFault>
-    requires { CanBind labels.now }
+    requires { AreLabels labels.now }
     ensures { Answers (λ wide. wide) result (widened_by flat.now labels.now.lines limits.now.bits) }
 {
     let addresses = leaf_addresses(alloc, labels.lines.as_slice())?;

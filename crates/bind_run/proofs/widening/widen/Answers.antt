@@ -1,6 +1,7 @@
-use Rattle.std.proofs.Common.{sym, ◌∙◌, ap}
+use Rattle.std.proofs.Common.{length, sym, ◌∙◌, ap, arith}
 use Rattle.bind_run.specs.Nets.{names_of}
 use Rattle.bind_run.specs.Widened.{bits_with, first_taken, leaf_addresses, widened}
+use Rattle.bind_run.proofs.LabelLemmas.{labels_leaves}
 use Rattle.bind_run.proofs.LeafLemmas.{none_taken, taken_alike, widen_fits, widen_large, widen_taken, within}
 use Rattle.bind_run.proofs.widening.widen.Goals as goal
 
@@ -37,3 +38,8 @@ returns c =
     c.from-limit.ensures c.if-limit-count.false)
     (c.in_ok-widened.ensures
     ∙ ap (widened c.args.flat.now) (c.as_slice-4.ensures.value ∙ c.in_ok-addresses.ensures ∙ ap leaf_addresses c.as_slice.ensures))
+
+pub bits_with-count-requires : goal.bits_with-count-requires
+bits_with-count-requires c =
+    let l = labels_leaves c.args.labels.now c.requires in
+    let e = ap length (c.as_slice-3.ensures.value ∙ c.in_ok-addresses.ensures ∙ ap leaf_addresses c.as_slice.ensures) in omega arith
