@@ -26,3 +26,6 @@ pub mod TableBound
 pub mod ClockBound
 pub mod BoundStarts
 pub mod SetupBound
+pub mod WidePorts
+pub mod WideGraphs
+pub mod WideFaults

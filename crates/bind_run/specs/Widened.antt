@@ -1,11 +1,16 @@
 -- A netlist with its word leaves: an input port of 32 bits for each `leaf` line.
-use Rattle.std.specs.Prelude.{ℕ, ◌+◌, ◌*◌, nat_lt, true, if◌then◌else◌, List, [], ◌∷◌, map, flat_map, length, is_some, Option, Some, None, Result, Ok, Err}
+use Rattle.std.specs.Prelude.{◌≡◌, ℕ, ◌+◌, ◌*◌, nat_lt, true, if◌then◌else◌, List, [], ◌∷◌, map, flat_map, length, is_some, Option, Some, None, Result, Ok, Err}
 use Rattle.std.specs.Cmp.Lexicographic.{slice_cmp}
 use Rattle.std.specs.List.{range_with_len}
 use Rattle.std.specs.Ordering.{is_lt, nat_cmp}
 use Rattle.coco_base.specs.declared.netlist.Flat.{Flat}
 use Rattle.coco_base.specs.declared.netlist.FlatPort.{FlatPort}
 use Rattle.coco_base.specs.declared.netlist.Wire.TheVariants.{Bit}
+use Rattle.coco_model.specs.Netlist.{IsInRange}
+use Rattle.gate_graph.specs.declared.fault.GraphFault.{GraphFault}
+use Rattle.gate_graph.specs.declared.fault.GraphFault.TheVariants as graph
+use Rattle.gate_graph.specs.Drivers.{HasNumbers}
+use Rattle.gate_graph.specs.Faults.{IsGraphFault}
 use Rattle.label_file.specs.declared.line.LabelLine.{LabelLine}
 use Rattle.label_file.specs.Conditions.{named_leaves}
 use Rattle.bind_run.specs.declared.fault.BindFault.{BindFault}
@@ -68,3 +73,9 @@ or_taken flat limit addresses None =
 abbrev pub widened_by : Flat → List LabelLine → ℕ → Result Flat BindFault
 widened_by flat lines limit =
     or_taken flat limit (leaf_addresses lines) (first_taken (names_of flat) (leaf_addresses lines))
+
+-- a netlist has a graph: it may be built, and nothing but want of memory refuses it
+pub record HasGraph (flat : Flat) : Type 0 where
+  pub range : IsInRange flat
+  pub numbers : HasNumbers flat
+  pub no_fault : (f : GraphFault) → IsGraphFault flat f → f ≡ graph.Memory

@@ -7,7 +7,8 @@ ghost use Rattle.coco_base.specs.declared.netlist.FlatPort.{FlatPort};
 ghost use Rattle.coco_base.specs.declared.netlist.Wire.TheVariants.{Bit};
 ghost use Rattle.label_file.specs.Conditions.{AreLabels};
 ghost use Rattle.bind_run.specs.Causes.{Answers};
-ghost use Rattle.bind_run.specs.Widened.{bits_with, first_taken, leaf_addresses, leaf_bits, leaf_port, widened, widened_by, with_leaves, with_port};
+ghost use Rattle.gate_graph.specs.Graphs.{Gates, IsGraphOf};
+ghost use Rattle.bind_run.specs.Widened.{HasGraph, bits_with, first_taken, leaf_addresses, leaf_bits, leaf_port, widened, widened_by, with_leaves, with_port};
 
 use crate::copies::{cells_of, flops_of, nets_of, ports_of};
 use crate::fault::BindFault;
@@ -122,10 +123,11 @@ fn add_leaf(
     Ok(())
 }
 
-/// Ports with those of words.
+/// Ports with those of words. A list of them has numbers of 32 bits for its places.
 fn ports_with(alloc: Global, flat: &Flat, addresses: &[u32]) -> Result<List<FlatPort>, NoMemory>
     requires { bits_with flat.now addresses.now < 2 ^ 32 }
-    ensures { IfOk result (λ ports. ports ≡ with_leaves flat.now.bits flat.now.ports addresses.now) }
+    ensures ports { IfOk result (λ ports. ports ≡ with_leaves flat.now.bits flat.now.ports addresses.now) }
+    ensures few { IfOk result (λ ports. length ports < 2 ^ 32) }
 {
     let mut ports = ports_of(alloc, flat.ports.as_slice())?;
     let mut bits = flat.bits;
@@ -135,12 +137,16 @@ fn ports_with(alloc: Global, flat: &Flat, addresses: &[u32]) -> Result<List<Flat
         bits += leaf_bits();
         rest = more;
     }
+    if ports.len() >= 1 << 32 {
+        return Err(NoMemory);
+    }
     Ok(List::from_vec(ports))
 }
 
 fn widened(alloc: Global, flat: &Flat, bits: u32, addresses: &[u32]) -> Result<Flat, NoMemory>
     requires { bits ≡ bits_with flat.now addresses.now }
-    ensures { IfOk result (λ wide. wide ≡ widened flat.now addresses.now) }
+    ensures wide { IfOk result (λ wide. wide ≡ widened flat.now addresses.now) }
+    ensures few { IfOk result (λ wide. length wide.ports < 2 ^ 32) }
 {
     Ok(Flat {
         bits,
@@ -161,7 +167,8 @@ fn bits_with(flat: &Flat, addresses: &[u32]) -> u64
 }
 
 /// The netlist with an input port `mem@XXXXXXXX` of 32 bits for each `leaf` line, at its place in the order of names.
-/// The bits of the first line are those from `flat.bits` on. A name that is taken comes before too many bits.
+/// The bits of the first line are those from `flat.bits` on. A name that is taken comes before too many bits. Where the netlist
+/// has a graph, the widened one has one too: `build` refuses it for want of memory alone.
 pub fn widen(
     alloc: Global,
     flat: &Flat,
@@ -169,7 +176,8 @@ pub fn widen(
     limits: &Limits,
 ) -> Result<Flat, BindFault>
     requires { AreLabels labels.now }
-    ensures { Answers (λ wide. wide) result (widened_by flat.now labels.now.lines limits.now.bits) }
+    ensures wide { Answers (λ wide. wide) result (widened_by flat.now labels.now.lines limits.now.bits) }
+    ensures graph { IfOk result (λ wide. (gates : Gates) → IsGraphOf flat.now gates → HasGraph wide) }
 {
     let addresses = leaf_addresses(alloc, labels.lines.as_slice())?;
     let names = names_of(alloc, flat)?;
