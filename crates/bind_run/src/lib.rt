@@ -28,4 +28,6 @@ pub use fault::BindFault;
 pub use widening::widen;
 
 #[cfg(test)]
+mod row_tests;
+#[cfg(test)]
 mod tests;
