@@ -3,4 +3,4 @@
 
 pub mod rows;
 
-pub use rows::{count_up, fresh_row, or_into, xor_into};
+pub use rows::{count_up, fresh_row, or_into, signal_at, xor_into};

@@ -1,26 +1,34 @@
 ghost use Rattle.std.specs.Prelude.{◌≡◌, ◌<◌, length, IfOk, OnOk};
 ghost use Rattle.circuit_clauses.specs.Formulas.{Fits};
 ghost use Rattle.clause_builds.specs.Builds.{made, after};
-ghost use Rattle.clause_builds.specs.Rows.{or_into, xor_into, fresh_row, fresh_if, singles, count_up};
+ghost use Rattle.clause_builds.specs.Rows.{signal_at, or_into, xor_into, fresh_row, fresh_if, singles, count_up};
 
 use circuit_clauses::{FALSE, Form, Signal, TRUE};
 use coco_base::{List, NoMemory};
 use std::alloc::Global;
 use tally_clauses::tally_of;
 
-/// The signal at a place becomes what it is or another is.
+/// The signal at a place; false past the end. It takes no memory.
+pub fn signal_at(signals: &[Signal], place: usize) -> Signal
+    ensures { result ≡ signal_at signals.now place }
+{
+    signals.get(place).copied().unwrap_or(FALSE)
+}
+
+/// The signal at a place becomes what it is or another is. Past the end no signal and no step comes.
 pub fn or_into(
     form: &mut Form,
     signals: &mut [Signal],
     place: usize,
     other: Signal,
 ) -> Result<(), NoMemory>
-    requires place { place < length signals.old }
-    requires fits { Fits (after form.old (or_into signals.old place other)) }
+    requires { Fits (after form.old (or_into signals.old place other)) }
     ensures signals { OnOk result (signals.new ≡ made form.old (or_into signals.old place other)) }
     ensures formula { OnOk result (form.new ≡ after form.old (or_into signals.old place other)) }
 {
-    signals[place] = form.or_and(signals[place], other, TRUE)?;
+    if place < signals.len() {
+        signals[place] = form.or_and(signals[place], other, TRUE)?;
+    }
     Ok(())
 }
 
@@ -42,12 +50,12 @@ pub fn xor_into(
 }
 
 /// A variable for each place where one is wanted, as a negative literal, and elsewhere a false signal.
-pub fn fresh_row(alloc: Global, form: &mut Form, wanted: &[bool]) -> Result<Vec<Signal>, NoMemory>
+pub fn fresh_row(alloc: Global, form: &mut Form, wanted: &[bool]) -> Result<List<Signal>, NoMemory>
     requires { Fits (after form.old (fresh_row wanted.now)) }
-    ensures signals { IfOk result (λ row. row.items ≡ made form.old (fresh_row wanted.now)) }
+    ensures signals { IfOk result (λ row. row ≡ made form.old (fresh_row wanted.now)) }
     ensures formula { OnOk result (form.new ≡ after form.old (fresh_row wanted.now)) }
 {
-    let mut row = Vec::new(alloc);
+    let mut row = List::new(alloc);
     'places: for is_wanted in wanted {
         let signal = fresh_if(form, *is_wanted);
         row.push(signal)?;

@@ -6,4 +6,4 @@ use Rattle.clause_builds.proofs.rows.fresh_row.Given as goal
 
 abbrev pub invariant-places : goal.invariant-places
 invariant-places l =
-    IsLeft l.fn.form (fresh_row l.fn.wanted) l.form (each_onto fresh_if (drop l.is_wanted-index l.wanted) l.row.items)
+    IsLeft l.fn.form (fresh_row l.fn.wanted) l.form (each_onto fresh_if (drop l.is_wanted-index l.wanted) l.row)
