@@ -125,3 +125,29 @@ bind_done build =
 
 pub same_back : {X : Type 0} {a b : Build X} → AreSame a b → AreSame b a
 same_back p = record { result = λ f. sym (p.result f); formula = λ f. sym (p.formula f) }
+
+-- a build whose result is then turned into another
+pub then_done : {X Y : Type 0} (f : Formula) (first : Build X) (turned : X → Y) (h : Formula) (x : X) → h ≡ after f first → x ≡ made f first
+    → (turned x ≡ made f (first >>= (λ y. done (turned y)))) × (h ≡ after f (first >>= (λ y. done (turned y))))
+then_done {X = X} f first turned h x eh ex =
+    none_left (turned x) (next_left first (λ (y : X). done (turned y)) h x (all_left f (first >>= (λ (y : X). done (turned y)))) eh ex)
+
+-- two builds one after the other, whose results are then turned into one
+abbrev pub two : {X Y Z : Type 0} → Build X → (X → Build Y) → (X → Y → Z) → Build Z
+two first second turned = first >>= (λ x. second x >>= (λ y. done (turned x y)))
+
+second_left : {X Y Z : Type 0} (f : Formula) (first : Build X) (second : X → Build Y) (turned : X → Y → Z) (h : Formula) (x : X)
+    → h ≡ after f first → x ≡ made f first → IsLeft f (two first second turned) h (second x >>= (λ y. done (turned x y)))
+second_left {X = X} {Y = Y} f first second turned h x eh ex =
+    next_left first (λ (x : X). second x >>= (λ (y : Y). done (turned x y))) h x (all_left f (two first second turned)) eh ex
+
+pub second_fits : {X Y Z : Type 0} (f : Formula) (first : Build X) (second : X → Build Y) (turned : X → Y → Z) (h : Formula) (x : X)
+    → h ≡ after f first → x ≡ made f first → Fits (after f (two first second turned)) → Fits (after h (second x))
+second_fits {Y = Y} f first second turned h x eh ex fits =
+    first_fits (second x) (λ (y : Y). done (turned x y)) (second_left f first second turned h x eh ex) fits
+
+pub two_ends : {X Y Z : Type 0} (f : Formula) (first : Build X) (second : X → Build Y) (turned : X → Y → Z) (h : Formula) (x : X) (i : Formula) (y : Y)
+    → h ≡ after f first → x ≡ made f first → i ≡ after h (second x) → y ≡ made h (second x)
+    → (turned x y ≡ made f (two first second turned)) × (i ≡ after f (two first second turned))
+two_ends {Y = Y} f first second turned h x i y eh ex ei ey =
+    none_left (turned x y) (next_left (second x) (λ (y : Y). done (turned x y)) i y (second_left f first second turned h x eh ex) ei ey)

@@ -1,0 +1,8 @@
+pub mod RunViews
+pub mod Probings
+pub mod Rows
+pub mod Windows
+pub mod Walks
+pub mod Passes
+pub mod Parts
+pub mod Times

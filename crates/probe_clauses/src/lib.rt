@@ -1,0 +1,19 @@
+//! The clauses about probes and pairs: groups, what is near them, probes, windows, what is reached, and pairs.
+#![tactic(auto)]
+
+mod counted;
+mod groups;
+mod links;
+mod pairs;
+pub mod part;
+mod probes;
+pub mod query;
+mod reach;
+pub mod run;
+mod shown;
+mod walks;
+mod windows;
+
+pub use part::{ProbePart, probe_part};
+pub use query::Query;
+pub use run::ProbedRun;
