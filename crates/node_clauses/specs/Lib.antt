@@ -1,0 +1,4 @@
+pub mod Choices
+pub mod Selectors
+pub mod Sums
+pub mod Laws
