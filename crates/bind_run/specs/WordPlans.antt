@@ -27,6 +27,15 @@ abbrev pub first_of : {X : Type 0} → Option X → Option X → Option X
 first_of (Some x) other = Some x
 first_of None other = other
 
+-- a `mem` line, and no other
+abbrev pub mem_line : LabelLine → List LabelLine
+mem_line (line.Mem a value) = line.Mem a value ∷ []
+mem_line l = []
+
+-- the `mem` lines among lines
+abbrev pub mem_lines : List LabelLine → List LabelLine
+mem_lines lines = flat_map mem_line lines
+
 -- the value that a `mem` line gives a word
 abbrev pub mem_value : ℕ → List LabelLine → Option LabelValue
 mem_value address [] = None

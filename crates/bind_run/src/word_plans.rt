@@ -2,7 +2,7 @@
 ghost use Rattle.std.specs.Prelude.{◌≡◌, ◌≤◌, ◌<◌, ◌+◌, ◌*◌, ◌^◌, ◌++◌, None, Some, flat_map, IfOk, IfSome, OnOk};
 ghost use Rattle.std.specs.List.{range_with_len};
 ghost use Rattle.bind_run.specs.Values.{HasRoom, HaveRoom};
-ghost use Rattle.bind_run.specs.WordPlans.{data_start, data_words, first_of, image_value, mem_value, plans_of, region_plans, text_words, words_of};
+ghost use Rattle.bind_run.specs.WordPlans.{data_start, data_words, first_of, image_value, mem_lines, mem_value, plans_of, region_plans, text_words, words_of};
 
 use crate::items::first;
 use crate::values::word_bits;
@@ -44,6 +44,24 @@ fn data_start() -> u32
     ensures small { data_start ≤ 65536 }
 {
     0x1_0000
+}
+
+/// The `mem` lines among lines, so that a word is not sought among all of them.
+fn mem_lines(alloc: Global, lines: &[LabelLine]) -> Result<Vec<LabelLine>, NoMemory>
+    ensures { IfOk result (λ mems. mems.items ≡ mem_lines lines.now) }
+{
+    let mut mems = Vec::new(alloc);
+    let mut rest = lines;
+    'lines: while let Some((line, more)) = first(rest) {
+        if let LabelLine::Mem { address, value } = line {
+            mems.push(LabelLine::Mem {
+                address: *address,
+                value: *value,
+            })?;
+        }
+        rest = more;
+    }
+    Ok(mems)
 }
 
 /// The value that a `mem` line gives a word.
@@ -126,8 +144,8 @@ fn push_region(
     Ok(())
 }
 
-/// The words of the text that are given, and all words of the data, by address.
-pub(crate) fn words_of(
+/// The words of the text and of the data, by address.
+fn words_among(
     alloc: Global,
     image: &Image,
     lines: &[LabelLine],
@@ -149,4 +167,17 @@ pub(crate) fn words_of(
     };
     push_region(alloc, &mut plans, data, lines, data_words())?;
     Ok(List::from_vec(plans))
+}
+
+/// The words of the text that are given, and all words of the data, by address.
+pub(crate) fn words_of(
+    alloc: Global,
+    image: &Image,
+    lines: &[LabelLine],
+) -> Result<List<WordPlan>, NoMemory>
+    requires { HaveRoom lines.now }
+    ensures { IfOk result (λ plans. plans ≡ words_of image.now lines.now) }
+{
+    let mems = mem_lines(alloc, lines)?;
+    words_among(alloc, image, mems.as_slice())
 }
