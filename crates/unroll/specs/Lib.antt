@@ -1,0 +1,9 @@
+pub mod NodeRows
+pub mod NodeWords
+pub mod NodeWrites
+pub mod RootedRuns
+pub mod Walks
+pub mod Moments
+pub mod Unrolls
+pub mod Counters
+pub mod Examples
