@@ -1,0 +1,16 @@
+pub mod WriteLemmas
+pub mod SourceLemmas
+pub mod WordLemmas
+pub mod NumberLemmas
+pub mod GateLemmas
+pub mod CellLemmas
+pub mod SettleLemmas
+pub mod CycleLemmas
+pub mod WalkLemmas
+pub mod RootLemmas
+pub mod StepLemmas
+pub mod SimLemmas
+pub mod FaultLemmas
+pub mod UnrolledLemmas
+pub mod CounterLemmas
+pub mod ExampleLemmas
