@@ -1,0 +1,7 @@
+use Rattle.std.proofs.Common.{take, ◌+◌}
+use Rattle.unroll.specs.NodeRows.{nodes_of}
+use Rattle.unroll.specs.NodeWrites.{IsWritten, bit_writes}
+use Rattle.unroll.proofs.leaves.write_word.Given as goal
+
+abbrev pub invariant-bits : goal.invariant-bits
+invariant-bits l = IsWritten (bit_writes (λ k b. nodes_of l.memory (l.start + k)) 0 (take l.place l.bits)) l.fn.row l.row
