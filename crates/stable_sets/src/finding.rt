@@ -21,10 +21,10 @@ use std::alloc::Global;
 /// The calm rows of a run, one for each cycle.
 pub type Rows = List<CalmRow>;
 
-/// Whether a value is a finding of an order, from 1 to 64, where a probe lasts a window of cycles, cut at the end of the
-/// run: at least one and at most as many probes as the order, unknown pairs of leaf and cycle that they show, both in
-/// ascending order, and a selection by which the pairs' set is the finding's and shows a leak. A window is at least 1
-/// cycle; with one of 0 nothing is shown, and no value is a finding. The only error is want of memory.
+/// Whether a value is a finding of an order, from 1 to 64, where a probe lasts a window of cycles, cut at the end of
+/// the run: at least one and at most as many probes as the order, unknown pairs of leaf and cycle that they show, both
+/// in ascending order, and a selection by which the pairs' set is the finding's and shows a leak. A window is at least
+/// 1 cycle; with one of 0 nothing is shown, and no value is a finding. The only error is want of memory.
 pub fn is_bad(
     alloc: Global,
     graph: &Graph,

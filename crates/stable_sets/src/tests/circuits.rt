@@ -16,8 +16,9 @@ fn add_copies(nodes: &mut Vec<Node>, origins: &[u32]) -> Result<(), NoMemory> {
     Ok(())
 }
 
-// bits clk, q0, q1, n, rp, ro, z, p, o, v, y: z is masked in truth, since q0 AND n and q0 OR n differ by q0 XOR n
-fn false_alarm(alloc: Global, chosen: &[(usize, u8)], claim: Claim) -> Result<bool, Fail> {
+// three cycles of clk, q0, q1, n, rp, ro, z, p, o, v, y: z is masked in truth, since q0 AND n and q0 OR n differ by
+// q0 XOR n
+fn false_alarm_nodes(alloc: Global) -> Result<Vec<Node>, NoMemory> {
     let first = [
         NOTHING,
         Node::Label(0),
@@ -41,6 +42,11 @@ fn false_alarm(alloc: Global, chosen: &[(usize, u8)], claim: Claim) -> Result<bo
     nodes.push(NOTHING)?;
     add_copies(&mut nodes, &[12, 13, 14, 18, 19, 20, 18, 19, 20])?;
     nodes.push(both(Kind::Xor, 28, 24))?;
+    Ok(nodes)
+}
+
+fn false_alarm(alloc: Global, chosen: &[(usize, u8)], claim: Claim) -> Result<bool, Fail> {
+    let nodes = false_alarm_nodes(alloc)?;
     let case = Case {
         circuit: FALSE_ALARM,
         known: "0vvv000vv0v 0vvvvv0vvvv 0vvvvvvvvvv",
@@ -82,34 +88,29 @@ const TWO_SECRETS: &str =
     "a0 = FLOP(a0)\na1 = FLOP(a1)\nb0 = FLOP(b0)\nb1 = FLOP(b1)\nr = FLOP(v)\ns = FLOP(w)
 v = XOR(a0, b0)\nw = XOR(a1, b1)\ny = XOR(r, s)";
 
-// bits clk, a0, a1, b0, b1, r, s, v, w, y
+// two cycles of clk, a0, a1, b0, b1, r, s, v, w, y
 fn two_secrets(alloc: Global, claim: Claim) -> Result<bool, Fail> {
+    let first = [
+        NOTHING,
+        Node::Label(0),
+        Node::Label(1),
+        Node::Label(2),
+        Node::Label(3),
+        NOTHING,
+        NOTHING,
+        both(Kind::Xor, 1, 3),
+        both(Kind::Xor, 2, 4),
+        NOTHING,
+        NOTHING,
+    ];
+    let mut nodes = Vec::from_slice(alloc, &first)?;
+    add_copies(&mut nodes, &[1, 2, 3, 4, 7, 8, 7, 8])?;
+    nodes.push(both(Kind::Xor, 15, 16))?;
     let case = Case {
         circuit: TWO_SECRETS,
         known: "0vvvv00vv0 0vvvvvvvvv",
         cycles: 2,
-        nodes: &[
-            NOTHING,
-            Node::Label(0),
-            Node::Label(1),
-            Node::Label(2),
-            Node::Label(3),
-            NOTHING,
-            NOTHING,
-            both(Kind::Xor, 1, 3),
-            both(Kind::Xor, 2, 4),
-            NOTHING,
-            NOTHING,
-            Node::Copy(1),
-            Node::Copy(2),
-            Node::Copy(3),
-            Node::Copy(4),
-            Node::Copy(7),
-            Node::Copy(8),
-            Node::Copy(7),
-            Node::Copy(8),
-            both(Kind::Xor, 15, 16),
-        ],
+        nodes: nodes.as_slice(),
         chosen: &[(7, 3), (8, 3), (19, 3)],
     };
     tells(alloc, case, 1, 1, claim)
