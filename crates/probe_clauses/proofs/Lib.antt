@@ -3,3 +3,6 @@ pub mod Choices
 pub mod Lasting
 pub mod Picking
 pub mod Demanding
+pub mod Sizes
+pub mod Totals
+pub mod Sized

@@ -6,3 +6,4 @@ pub mod Walks
 pub mod Passes
 pub mod Parts
 pub mod Times
+pub mod Laws

@@ -3,17 +3,21 @@
 
 mod counted;
 mod groups;
+pub mod laws;
 mod links;
 mod pairs;
 pub mod part;
 mod probes;
 pub mod query;
 mod reach;
+pub mod room;
 pub mod run;
 mod shown;
 mod walks;
 mod windows;
 
+pub use laws::size_law;
 pub use part::{ProbePart, probe_part};
 pub use query::Query;
+pub use room::can_add_probes;
 pub use run::ProbedRun;

@@ -23,8 +23,8 @@ pub struct ProbePart {
     pub pairs: List<List<Signal>>,
 }
 
-/// Adds all clauses about probes and pairs: at least one and at most as many probes as asked for, and each pair is shown
-/// by one.
+/// Adds all clauses about probes and pairs: at least one and at most as many probes as asked for, and each pair is
+/// shown by one.
 pub fn probe_part(
     alloc: Global,
     form: &mut Form,
