@@ -8,7 +8,7 @@ use Rattle.circuit_clauses.specs.Steps.Step.{xor_and_gate}
 use Rattle.circuit_clauses.specs.Gates.{made_by, known_xor_and}
 use Rattle.circuit_clauses.specs.Formulas.{Formula, Fits}
 use Rattle.circuit_clauses.proofs.Sizes.{length-disjunctions}
-use Rattle.clause_builds.specs.Builds.{Build, after, done, ◌>>=◌, through, xor_gate}
+use Rattle.clause_builds.specs.Builds.{Build, after, done, ◌>>=◌, xor_gate}
 use Rattle.clause_builds.proofs.Sizing.{Takes, takes-done, takes-bind, takes_more, takes-through, takes-fresh, takes-demanded}
 use Rattle.node_clauses.specs.Choices.{four_places, set_numbers, choices}
 use Rattle.node_clauses.specs.Selectors.{known_or_fresh, known_place, add_place, add_places, differs_unless, differs_at, differs, others_differ, selectors, no_places}

@@ -12,7 +12,7 @@ use Rattle.circuit_clauses.specs.declared.signal.Signal.TheVariants.{Constant, L
 use Rattle.clause_builds.specs.Builds.{Build, done, ◌>>=◌, through}
 use Rattle.clause_builds.specs.Rows.{signal_at, xor_into}
 use Rattle.node_clauses.specs.Choices.{four_places, has_place, choices}
-use Rattle.node_clauses.specs.Selectors.{selectors, no_places}
+use Rattle.node_clauses.specs.Selectors.{selectors, no_places, some_has}
 use Rattle.node_clauses.specs.declared.sums.Nodes.{Nodes}
 
 -- the nodes of a run, which of them matter, and the labels that have variables, in ascending order
@@ -116,6 +116,16 @@ pub record AreSized (run : NodeRun) (sums : NodeSums) : Type 0 where
   pub weights : length sums.weights ≡ length run.nodes
   pub totals : length sums.totals ≡ length run.labels
   pub selections : length sums.selections ≡ length run.nodes
+
+-- the operands at the places that are not false are below a number
+abbrev pub AreChosenBelow : List Signal → List ℕ → ℕ → Type 0
+AreChosenBelow selected operands count =
+    (j : ℕ) → j < 4 → is_false (signal_at selected j) ≡ false → get_or operands j 0 < count
+
+-- the operands at the places that some number has are below a number
+abbrev pub AreSomeBelow : List ℕ → List ℕ → ℕ → Type 0
+AreSomeBelow numbers operands count =
+    (j : ℕ) → j < 4 → some_has numbers j ≡ true → get_or operands j 0 < count
 
 -- sums have as many signals as others
 pub record AreAsLong (sums others : NodeSums) : Type 0 where

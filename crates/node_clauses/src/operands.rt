@@ -3,7 +3,7 @@ ghost use Rattle.std.specs.Prelude.{◌≡◌, ◌<◌, length, get_or, OnOk, �
 ghost use Rattle.circuit_clauses.specs.Formulas.{Fits};
 ghost use Rattle.clause_builds.specs.Builds.{made, after};
 ghost use Rattle.clause_builds.specs.Rows.{signal_at};
-ghost use Rattle.node_clauses.specs.Sums.{add_operand, add_operands, is_false};
+ghost use Rattle.node_clauses.specs.Sums.{add_operand, add_operands, is_false, AreChosenBelow};
 
 use crate::choices::PLACES;
 use circuit_clauses::{Form, Signal};
@@ -18,7 +18,7 @@ pub(crate) fn add_operands(
     weight: Signal,
     weights: &mut [Signal],
 ) -> Result<(), NoMemory>
-    requires places { (j : ℕ) → j < 4 → is_false (signal_at selected j) ≡ false → get_or operands j 0 < length weights.old }
+    requires places { AreChosenBelow selected operands (length weights.old) }
     requires fits { Fits (after form.old (add_operands selected operands weight weights.old)) }
     ensures signals { OnOk result (weights.new ≡ made form.old (add_operands selected operands weight weights.old)) }
     ensures formula { OnOk result (form.new ≡ after form.old (add_operands selected operands weight weights.old)) }

@@ -3,7 +3,7 @@ ghost use Rattle.std.specs.List.Sorted.{IsStrictlyIncreasing};
 ghost use Rattle.circuit_clauses.specs.Formulas.{Fits};
 ghost use Rattle.clause_builds.specs.Builds.{made, after};
 ghost use Rattle.node_clauses.specs.Selectors.{some_has};
-ghost use Rattle.node_clauses.specs.Sums.{add_at, add_label, add_copy, place_of, least_choice, set_least, add_choice, add_node, add_nodes, node_sums, run_of, IsNodeRun, AreSized, AreAsLong};
+ghost use Rattle.node_clauses.specs.Sums.{add_at, add_label, add_copy, place_of, least_choice, set_least, add_choice, add_node, add_nodes, node_sums, run_of, IsNodeRun, AreSized, AreAsLong, AreSomeBelow};
 
 use crate::choices::{PLACES, choices, has_place};
 use crate::operands::add_operands;
@@ -196,7 +196,7 @@ fn add_choice(
 ) -> Result<(), NoMemory>
     requires place { place < length sums.old.weights }
     requires selection { place < length sums.old.selections }
-    requires operands { (j : ℕ) → j < 4 → some_has numbers.now j ≡ true → get_or operands j 0 < length sums.old.weights }
+    requires operands { AreSomeBelow numbers.now operands (length sums.old.weights) }
     requires fits { Fits (after form.old (add_choice numbers.now operands place sums.old)) }
     ensures sums { OnOk result (sums.new ≡ made form.old (add_choice numbers.now operands place sums.old)) }
     ensures formula { OnOk result (form.new ≡ after form.old (add_choice numbers.now operands place sums.old)) }

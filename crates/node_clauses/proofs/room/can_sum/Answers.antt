@@ -1,6 +1,5 @@
 use Rattle.std.proofs.Common.{◌+◌, ◌*◌, ◌≤◌, ◌^◌, length, arith, ap, ◌∙◌}
 use Rattle.std.proofs.lemmas.Bool.{leb-true}
-use Rattle.node_clauses.specs.Sums.{node_sums}
 use Rattle.node_clauses.specs.Laws.{variables_a_node, clauses_a_node}
 use Rattle.node_clauses.proofs.SizeLemmas.{sums_fit}
 use Rattle.node_clauses.proofs.room.can_sum.Goals as goal
