@@ -3,8 +3,13 @@ pub mod TrailFacts
 pub mod StandingFacts
 pub mod PropagationFacts
 pub mod CountFacts
+pub mod WatchFacts
+pub mod SettleFacts
 pub mod MarkFacts
 pub mod AnalysisFacts
 pub mod JumpFacts
+pub mod WatchJumps
+pub mod BeginFacts
 pub mod OutcomeFacts
+pub mod TurnFacts
 pub mod LineCount

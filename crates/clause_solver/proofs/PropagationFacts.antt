@@ -3,7 +3,7 @@ use Rattle.std.proofs.Common.{◌≡◌, ℕ, suc, ◌<◌, ◌≤◌, Bool, fal
 use Rattle.std.specs.Prelude.{slice_get, slice_index, All}
 use Rattle.std.proofs.lemmas.Grind.{common_steps}
 use Rattle.std.proofs.lemmas.Bool.{cases_eq, cases_lt}
-use Rattle.std.proofs.lemmas.List.{length_push, take-append-le, take_at, get_or_append_left, get_or_push}
+use Rattle.std.proofs.lemmas.List.{length_push, take-append-le, take-take, take_all, take_at, get_or_append_left, get_or_push}
 use Rattle.std.proofs.lemmas.Option.{same_Some, slice_get_within, get_or_from_slice_get, slice_get-get_or}
 use Rattle.clause_store.specs.declared.lit.Lit.{Lit}
 use Rattle.clause_store.specs.Signs.{sign_of}
@@ -68,13 +68,13 @@ explained_push clauses h clause l id x named u coherent =
       in_range = x.in_range;
     }
 
-start_old : (starts : List ℕ) (n k : ℕ) → k < length starts → slice_index (starts ++ n ∷ []) k ≡ slice_index starts k
+pub start_old : (starts : List ℕ) (n k : ℕ) → k < length starts → slice_index (starts ++ n ∷ []) k ≡ slice_index starts k
 start_old starts n k lt = get_or_append_left starts (n ∷ []) 0 k lt
 
-start_new : (starts : List ℕ) (n : ℕ) → slice_index (starts ++ n ∷ []) (length starts) ≡ n
+pub start_new : (starts : List ℕ) (n : ℕ) → slice_index (starts ++ n ∷ []) (length starts) ≡ n
 start_new starts n = get_or_push starts n 0 (length starts) refl
 
-level_cases : (starts : List ℕ) (n k : ℕ) → k < length (starts ++ n ∷ []) → (k < length starts) ⊎ (k ≡ length starts)
+pub level_cases : (starts : List ℕ) (n k : ℕ) → k < length (starts ++ n ∷ []) → (k < length starts) ⊎ (k ≡ length starts)
 level_cases starts n k lt =
     elim (cases_lt k (length starts)) [
       | inl less ↦ inl less
@@ -139,13 +139,20 @@ explained_decide clauses h l x done coherent =
     }
 
 pub extends_itself : (h : History) → Extends h h
-extends_itself h = record { vars = refl; longer = omega arith }
+extends_itself h = record { vars = refl; longer = omega arith; front = take_all (length h.lits) h.lits (omega arith) }
 
 pub extends_trans : (a b c : History) → Extends a b → Extends b c → Extends a c
-extends_trans a b c p q = let x : length a.lits ≤ length b.lits = p.longer in let y : length b.lits ≤ length c.lits = q.longer in record { vars = q.vars ∙ p.vars; longer = omega arith }
+extends_trans a b c p q =
+    let x : length a.lits ≤ length b.lits = p.longer in
+    let y : length b.lits ≤ length c.lits = q.longer in
+    record {
+      vars = q.vars ∙ p.vars;
+      longer = omega arith;
+      front = sym (take-take (length a.lits) (length b.lits) c.lits x) ∙ ap (take (length a.lits)) q.front ∙ p.front;
+    }
 
 pub extends_push : (h : History) (l : Lit) (r : Option ℕ) → Extends h (pushed h l r)
-extends_push h l r = record { vars = refl; longer = omega (arith, length_push h.lits l) }
+extends_push h l r = record { vars = refl; longer = omega (arith, length_push h.lits l); front = take_at h.lits (l ∷ []) (length h.lits) refl }
 
 -- a range of clauses: each that a number names
 pub range_at : (clauses : List (List Lit)) (vars : ℕ) → All (IsInRange vars) clauses → (id : ℕ) (c : List Lit) → slice_get clauses id ≡ Some c → IsInRange vars c

@@ -1,6 +1,9 @@
 pub mod Trails
 pub mod Propagation
+pub mod Watches
+pub mod Visits
 pub mod Analysis
 pub mod Jumps
 pub mod Outcomes
+pub mod Turns
 pub mod Laws

@@ -2,14 +2,10 @@
 use Rattle.std.specs.Prelude.{◌≡◌, ℕ, ◌<◌, ◌≤◌, List, length, take, Option, Some, None, slice_get, slice_index, All, IsSome}
 use Rattle.clause_store.specs.declared.lit.Lit.{Lit}
 use Rattle.clause_store.specs.Signs.{Ascends, sign_of}
-use Rattle.clause_store.specs.Assignments.{HasTrue, HasTwoOpen, IsClosed, IsClosedFor, IsFalsified, IsUnit}
+use Rattle.clause_store.specs.Assignments.{HasTrue, HasTwoOpen, IsClosed, IsFalsified, IsUnit}
 use Rattle.clause_solver.specs.Trails.{History, IsCoherent}
 use Rattle.clause_solver.specs.declared.standing.Standing.{Standing}
 use Rattle.clause_solver.specs.declared.standing.Standing.TheVariants.{Met, Loose, Unit, Broken}
-use Rattle.clause_solver.specs.declared.propagate.Visit.{Visit}
-use Rattle.clause_solver.specs.declared.propagate.Visit.TheVariants.{Quiet, Forced, Failed}
-use Rattle.clause_solver.specs.declared.propagate.Swept.{Swept}
-use Rattle.clause_solver.specs.declared.propagate.Swept.TheVariants.{Closed, Moved, Conflict}
 
 -- each variable of the clause is below a number
 abbrev pub IsOver : ℕ → List Lit → Type 0
@@ -55,25 +51,11 @@ pub record IsBrokenAt (clauses : List (List Lit)) (lits : List Lit) (id : ℕ) :
   pub named : slice_get clauses id ≡ Some clause
   pub falsified : IsFalsified lits clause
 
--- more literals may be set, and levels and variables are the same
+-- more literals may be set after those that were, and the variables are the same
 pub record Extends (old new : History) : Type 0 where
   pub vars : new.vars ≡ old.vars
   pub longer : length old.lits ≤ length new.lits
-
-abbrev pub IsVisited : List (List Lit) → ℕ → History → History → Visit → Type 0
-IsVisited clauses id old new Quiet = (new ≡ old) × ((c : List Lit) → slice_get clauses id ≡ Some c → IsClosedFor old.lits c)
-IsVisited clauses id old new Forced = length old.lits < length new.lits
-IsVisited clauses id old new Failed = IsBrokenAt clauses new.lits id
-
-abbrev pub IsSwept : List (List Lit) → History → History → Swept → Type 0
-IsSwept clauses old new Closed = IsClosed new.lits clauses
-IsSwept clauses old new Moved = length old.lits < length new.lits
-IsSwept clauses old new (Conflict id) = IsBrokenAt clauses new.lits id
-
--- propagation came to its end, or to a clause that is false
-abbrev pub IsPropagated : List (List Lit) → History → Option ℕ → Type 0
-IsPropagated clauses h None = IsClosed h.lits clauses
-IsPropagated clauses h (Some id) = IsBrokenAt clauses h.lits id
+  pub front : take (length old.lits) new.lits ≡ old.lits
 
 -- every variable is set
 abbrev pub IsFull : History → Type 0

@@ -1,97 +1,183 @@
-ghost use Rattle.std.specs.Prelude.{◌≡◌, ℕ, ◌+◌, ◌<◌, ◌≤◌, ◌^◌, length, IfOk, OnOk};
+ghost use Rattle.std.specs.Prelude.{◌≡◌, ◌≢◌, ℕ, ◌+◌, ◌<◌, ◌≤◌, ◌^◌, Bool, not, Some, length, slice_get, IfOk, OnOk, IfSome, IfNone, MatchBool};
+ghost use Rattle.clause_store.specs.Signs.{sign_of};
 ghost use Rattle.clause_store.specs.Derivations.{clauses_of};
-ghost use Rattle.clause_solver.specs.Propagation.{IsExplained, IsVisited, IsSwept, IsPropagated, Extends};
+ghost use Rattle.clause_solver.specs.Propagation.{IsInRange, Extends};
+ghost use Rattle.clause_solver.specs.Visits.{IsVisited, IsSettledOr};
+ghost use Rattle.clause_solver.specs.Watches.{listed_under, opposite_of, IsFalse, Holds, IsGuarded, IsPending, IsWatched};
 
-use crate::standing::{Standing, judged};
 use crate::trail::Trail;
-use clause_store::{Line, Store, clause_at};
+use crate::watches::{Pair, Watches, partner};
+use clause_store::{Line, Lit, Store, clause_at};
 use coco_base::NoMemory;
 
 /// What came of a look at one clause.
 #[derive(Clone, Copy, Debug)]
 pub(crate) enum Visit {
-    /// Nothing is to do for it.
-    Quiet,
-    /// Its last literal was set.
-    Forced,
-    /// It is false.
-    Failed,
+    /// It stays listed where it is.
+    Stays,
+    /// It is listed there no longer.
+    Gone,
+    /// It has this number, and it is false.
+    Failed(u32),
 }
 
-/// What came of a look at all clauses.
-#[derive(Clone, Copy, Debug)]
-pub(crate) enum Swept {
-    /// Nothing is left to do.
-    Closed,
-    /// Some literal was set.
-    Moved,
-    /// The clause of this number is false.
-    Conflict(u32),
-}
-
-/// Sets the last literal of a clause where all its others are false.
-fn look_at(trail: &mut Trail, store: &Store, lines: &[Line], id: u32) -> Result<Visit, NoMemory>
-    requires explained { IsExplained (clauses_of store.now lines.now) trail.old }
-    requires id { id < length (clauses_of store.now lines.now) }
-    ensures explained { OnOk result (IsExplained (clauses_of store.now lines.now) trail.new) }
-    ensures extends { OnOk result (Extends trail.old trail.new) }
-    ensures visited { IfOk result (IsVisited (clauses_of store.now lines.now) id trail.old trail.new) }
+pub(crate) fn opposite(lit: Lit) -> Lit
+    ensures { result ≡ opposite_of lit }
 {
-    match clause_at(store, lines, id) {
-        None => Ok(Visit::Quiet),
-        Some(clause) => match judged(trail, clause) {
-            Standing::Met => Ok(Visit::Quiet),
-            Standing::Loose => Ok(Visit::Quiet),
-            Standing::Unit(lit) => {
-                trail.push(lit, Some(id))?;
-                Ok(Visit::Forced)
+    Lit {
+        var: lit.var,
+        positive: !lit.positive,
+    }
+}
+
+fn is_true(trail: &Trail, lit: Lit) -> bool
+    requires { lit.var < trail.now.vars }
+    ensures { MatchBool result (sign_of trail.now.lits lit.var ≡ Some lit.positive) (sign_of trail.now.lits lit.var ≢ Some lit.positive) }
+{
+    match trail.value(lit.var) {
+        Some(sign) => sign == lit.positive,
+        None => false,
+    }
+}
+
+fn is_false(trail: &Trail, lit: Lit) -> bool
+    requires { lit.var < trail.now.vars }
+    ensures { MatchBool result (IsFalse trail.now.lits lit) (IsFalse trail.now.lits lit → ⊥) }
+{
+    match trail.value(lit.var) {
+        Some(sign) => sign != lit.positive,
+        None => false,
+    }
+}
+
+/// A literal of the clause besides one that is not false.
+fn find_awake(trail: &Trail, clause: &[Lit], besides: Lit) -> Option<Lit>
+    requires { IsInRange trail.now.vars clause.now }
+    ensures held { IfSome result (Holds clause.now) }
+    ensures other { IfSome result (λ l. l.var ≢ besides.var) }
+    ensures awake { IfSome result (λ l. IsFalse trail.now.lits l → ⊥) }
+    ensures none { IfNone result ((w : ℕ) (t : Bool) → w ≢ besides.var → sign_of clause.now w ≡ Some t
+        → sign_of trail.now.lits w ≡ Some (not t)) }
+{
+    'finding: for lit in clause {
+        if lit.var != besides.var && !is_false(trail, *lit) {
+            return Some(*lit);
+        }
+    }
+    None
+}
+
+/// An entry of the list of a literal, which is false since a place of the trail.
+#[derive(Clone, Copy, Debug)]
+pub(crate) struct Spot {
+    pub(crate) lit: Lit,
+    pub(crate) place: u32,
+    pub(crate) entry: usize,
+}
+
+/// Looks at the clause of an entry. Where it has a literal to be watched by that is not false it is watched by that
+/// one, and else its last literal is set.
+fn look_at(
+    trail: &mut Trail,
+    watches: &mut Watches,
+    store: &Store,
+    lines: &[Line],
+    spot: Spot,
+) -> Result<Visit, NoMemory>
+    requires guarded { IsGuarded (clauses_of store.now lines.now) trail.old watches.old }
+    requires place { slice_get trail.old.lits spot.place ≡ Some (opposite_of spot.lit) }
+    requires entry { spot.entry < length (listed_under watches.old spot.lit) }
+    requires pending { IsPending (clauses_of store.now lines.now) trail.old watches.old spot.lit spot.place spot.entry }
+    ensures guarded { OnOk result (IsGuarded (clauses_of store.now lines.now) trail.new watches.new) }
+    ensures extends { OnOk result (Extends trail.old trail.new) }
+    ensures visited { let clauses = clauses_of store.now lines.now in
+        IfOk result (IsVisited clauses trail.new watches.old watches.new spot) }
+{
+    let id = watches.id(spot.lit, spot.entry);
+    match partner(watches.pair(id), spot.lit) {
+        None => {
+            watches.remove(spot.lit, spot.entry);
+            Ok(Visit::Gone)
+        }
+        Some(other) => match clause_at(store, lines, id) {
+            None => Ok(Visit::Stays),
+            Some(clause) => {
+                if is_true(trail, other) {
+                    return Ok(Visit::Stays);
+                }
+                match find_awake(trail, clause, other) {
+                    Some(new) => {
+                        watches.rewatch(id, Pair { one: new, other })?;
+                        watches.remove(spot.lit, spot.entry);
+                        Ok(Visit::Gone)
+                    }
+                    None => {
+                        if is_false(trail, other) {
+                            return Ok(Visit::Failed(id));
+                        }
+                        trail.push(other, Some(id))?;
+                        Ok(Visit::Stays)
+                    }
+                }
             }
-            Standing::Broken => Ok(Visit::Failed),
         },
     }
 }
 
-fn sweep(trail: &mut Trail, store: &Store, lines: &[Line]) -> Result<Swept, NoMemory>
-    requires explained { IsExplained (clauses_of store.now lines.now) trail.old }
-    requires room { length lines.now ≤ 1000000000 }
-    ensures explained { OnOk result (IsExplained (clauses_of store.now lines.now) trail.new) }
-    ensures extends { OnOk result (Extends trail.old trail.new) }
-    ensures swept { IfOk result (IsSwept (clauses_of store.now lines.now) trail.old trail.new) }
-{
-    let count = store.count() + lines.len() as u32;
-    let mut moved = false;
-    'sweeping: for id in 0..count {
-        match look_at(trail, store, lines, id)? {
-            Visit::Quiet => {}
-            Visit::Forced => {
-                moved = true;
-            }
-            Visit::Failed => return Ok(Swept::Conflict(id)),
-        }
-    }
-    if moved {
-        return Ok(Swept::Moved);
-    }
-    Ok(Swept::Closed)
-}
-
-/// Sets what the clauses force, until nothing is left to do or a clause is false. It answers that clause's number.
-pub(crate) fn propagate(
+/// Looks at all clauses that are listed under the opposite of the literal at a place. It answers the number of one that
+/// is false.
+fn visit_all(
     trail: &mut Trail,
+    watches: &mut Watches,
     store: &Store,
     lines: &[Line],
+    place: u32,
 ) -> Result<Option<u32>, NoMemory>
-    requires explained { IsExplained (clauses_of store.now lines.now) trail.old }
-    requires room { length lines.now ≤ 1000000000 }
-    ensures explained { OnOk result (IsExplained (clauses_of store.now lines.now) trail.new) }
+    requires watched { IsWatched (clauses_of store.now lines.now) trail.old watches.old place }
+    requires place { place < length trail.old.lits }
+    ensures guarded { OnOk result (IsGuarded (clauses_of store.now lines.now) trail.new watches.new) }
     ensures extends { OnOk result (Extends trail.old trail.new) }
-    ensures propagated { IfOk result (IsPropagated (clauses_of store.now lines.now) trail.new) }
+    ensures settled { let clauses = clauses_of store.now lines.now in
+        IfOk result (IsSettledOr clauses trail.new watches.new (place + 1)) }
 {
-    'propagating: loop {
-        match sweep(trail, store, lines)? {
-            Swept::Closed => return Ok(None),
-            Swept::Moved => {}
-            Swept::Conflict(id) => return Ok(Some(id)),
+    let lit = opposite(trail.lit(place));
+    let mut entry = 0;
+    'visiting: while entry < watches.count(lit) {
+        let spot = Spot { lit, place, entry };
+        match look_at(trail, watches, store, lines, spot)? {
+            Visit::Stays => {
+                entry += 1;
+            }
+            Visit::Gone => {}
+            Visit::Failed(id) => return Ok(Some(id)),
         }
     }
+    Ok(None)
+}
+
+/// Sets what the clauses force by what was set from a place on, first in, first out, until nothing is left to do or a
+/// clause is false. It answers that clause's number.
+pub(crate) fn propagate(
+    trail: &mut Trail,
+    watches: &mut Watches,
+    store: &Store,
+    lines: &[Line],
+    head: u32,
+) -> Result<Option<u32>, NoMemory>
+    requires { IsWatched (clauses_of store.now lines.now) trail.old watches.old head }
+    ensures guarded { OnOk result (IsGuarded (clauses_of store.now lines.now) trail.new watches.new) }
+    ensures extends { OnOk result (Extends trail.old trail.new) }
+    ensures settled { let clauses = clauses_of store.now lines.now in
+        IfOk result (IsSettledOr clauses trail.new watches.new (length trail.new.lits)) }
+{
+    let mut next = head;
+    'propagating: while next < trail.len() {
+        match visit_all(trail, watches, store, lines, next)? {
+            Some(id) => return Ok(Some(id)),
+            None => {
+                next += 1;
+            }
+        }
+    }
+    Ok(None)
 }

@@ -3,12 +3,10 @@ ghost use Rattle.clause_store.specs.Signs.{Ascends, sign_of};
 ghost use Rattle.clause_solver.specs.Outcomes.{IsOutcome, CanBeSpent};
 ghost use Rattle.clause_solver.specs.Propagation.{IsOver};
 
-use crate::analysis::analyze;
-use crate::jump::jump_back;
 use crate::outcome::Outcome;
-use crate::search::search;
 use crate::trail::Trail;
-use clause_store::{Derivation, Line, Store};
+use crate::turn::{State, Turn, refute, take_turn, watch_store};
+use clause_store::{Derivation, Store};
 use coco_base::{List, NoMemory};
 use pickers::Picker;
 use std::alloc::Global;
@@ -39,13 +37,6 @@ fn values_of(alloc: Global, trail: &Trail) -> Result<List<bool>, NoMemory>
     Ok(values)
 }
 
-/// Tells the picker of each variable that an analysis cut.
-fn bump_cuts(picker: &mut Box<dyn Picker>, line: &Line) {
-    for cut in line.cuts.as_slice() {
-        picker.bump(cut.var);
-    }
-}
-
 /// Searches for values that meet every clause of the store, by a derivation of at most `steps` lines.
 ///
 /// Where nothing is left to propagate, the variable that the picker answers is set to false. The picker is told of each
@@ -66,26 +57,30 @@ pub fn solve(
     ensures spent { IfOk result (CanBeSpent store.now vars steps) }
 {
     let mut picker = picker;
-    let mut lines = List::new(alloc);
     if has_empty(store) {
-        return Ok(Outcome::Derived(Derivation { lines }));
+        return Ok(Outcome::Derived(Derivation {
+            lines: List::new(alloc),
+        }));
     }
-    let mut trail = Trail::new(alloc, vars)?;
-    let mut marks = vec![in alloc; false; vars as usize]?;
+    let mut state = State::new(alloc, vars)?;
+    match watch_store(&mut state.trail, &mut state.watches, store)? {
+        Some(id) => {
+            refute(alloc, store, &mut state, id)?;
+            let State { lines, .. } = state;
+            return Ok(Outcome::Derived(Derivation { lines }));
+        }
+        None => {}
+    }
     'stepping: for _ in 0..steps {
-        match search(&mut trail, store, lines.as_slice(), &mut picker)? {
-            None => return Ok(Outcome::Satisfied(values_of(alloc, &trail)?)),
-            Some(id) => {
-                let line = analyze(alloc, &trail, store, lines.as_slice(), id, &mut marks)?;
-                if line.clause.is_empty() {
-                    lines.push(line)?;
-                    return Ok(Outcome::Derived(Derivation { lines }));
-                }
-                bump_cuts(&mut picker, &line);
-                jump_back(&mut trail, line.clause.as_slice());
-                lines.push(line)?;
+        match take_turn(alloc, store, &mut state, &mut picker)? {
+            Turn::Met => return Ok(Outcome::Satisfied(values_of(alloc, &state.trail)?)),
+            Turn::Refuted => {
+                let State { lines, .. } = state;
+                return Ok(Outcome::Derived(Derivation { lines }));
             }
+            Turn::Learnt => {}
         }
     }
+    let State { lines, .. } = state;
     Ok(Outcome::Spent(Derivation { lines }))
 }

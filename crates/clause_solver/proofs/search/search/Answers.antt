@@ -1,12 +1,13 @@
-use Rattle.std.proofs.Common.{◌∙◌}
-use Rattle.clause_store.specs.Assignments.{IsClosed}
+use Rattle.std.proofs.Common.{length, take}
 use Rattle.clause_store.specs.Derivations.{clauses_of}
+use Rattle.clause_solver.specs.Watches.{IsSettled}
+use Rattle.clause_solver.proofs.SettleFacts.{settled_closed}
 use Rattle.clause_solver.proofs.search.search.Goals as goal
 
-pub searching-preserved : goal.searching-preserved
-searching-preserved g c =
-    let closed : IsClosed c.propagate.new.trail.lits (clauses_of c.args.store.now c.args.lines.now) = rw c.in-None.is at c.in_ok-id.ensures.propagated in
+pub returns-in-None-next_unset-clause-searched : goal.returns-in-None-next_unset-clause-searched
+returns-in-None-next_unset-clause-searched g c =
+    let settled : IsSettled (clauses_of c.args.store.now c.args.lines.now) c.propagate.new.watches (take (length c.propagate.new.trail.lits) c.propagate.new.trail.lits) c.propagate.new.trail.lits = rw c.in-None.is at c.in_ok-id.ensures.settled in
     record {
-      explained = (c.in_ok-decide-in-Some-next_unset).ensures.explained _ c.in_ok-id.ensures.explained closed;
-      vars = (c.in_ok-decide-in-Some-next_unset).ensures.vars ∙ c.in_ok-id.ensures.extends.vars ∙ c.searching.invariant.vars;
+      closed = settled_closed (clauses_of c.args.store.now c.args.lines.now) c.propagate.new.trail c.propagate.new.watches c.in_ok-id.ensures.guarded settled;
+      full = c.in-None-next_unset.ensures.none;
     }
