@@ -5,6 +5,8 @@ mod counted;
 mod groups;
 pub mod laws;
 mod links;
+#[cfg(test)]
+mod one_cycle;
 mod pairs;
 pub mod part;
 mod probes;
@@ -13,6 +15,8 @@ mod reach;
 pub mod room;
 pub mod run;
 mod shown;
+#[cfg(test)]
+mod tests;
 mod walks;
 mod windows;
 
