@@ -1,16 +1,13 @@
 -- How many variables and clauses builds take.
-use Rattle.std.proofs.Common.{◌≡◌, ℕ, zero, suc, ◌+◌, ◌-◌, ◌*◌, ◌≤◌, Bool, true, false, cond, List, [], ◌∷◌, ◌++◌, length, map, Option, Some, None, All, refl, sym, ap, ◌∙◌, subst, arith, length-append}
-use Rattle.std.specs.Prelude.{sum_by}
-use Rattle.std.proofs.lemmas.List.Sums.{sum_by-cons}
+use Rattle.std.proofs.Common.{◌≡◌, ℕ, zero, suc, ◌+◌, ◌*◌, ◌≤◌, Bool, true, false, List, [], ◌∷◌, ◌++◌, length, Option, Some, None, ap, ◌∙◌, arith, length-append}
 use Rattle.circuit_clauses.specs.declared.signal.Signal.{Signal}
 use Rattle.circuit_clauses.specs.declared.signal.Signal.TheVariants.{Constant}
-use Rattle.circuit_clauses.specs.Steps.{Step, gate_signal, or_and_disjunctions, variables_after, clauses_of_steps}
+use Rattle.circuit_clauses.specs.Steps.{gate_signal, or_and_disjunctions, variables_after, clauses_of_steps}
 use Rattle.circuit_clauses.specs.Steps.Step.{or_and_gate}
-use Rattle.circuit_clauses.specs.Signals.{disjunction}
 use Rattle.circuit_clauses.specs.Gates.{made_by, known_or_and}
-use Rattle.circuit_clauses.proofs.Sequences.{variables_after-append, clauses_of_steps-append, variables_above}
+use Rattle.circuit_clauses.proofs.Sequences.{variables_after-append, clauses_of_steps-append}
 use Rattle.circuit_clauses.proofs.Sizes.{length-disjunctions}
-use Rattle.clause_builds.specs.Builds.{Build, Built, done, ◌>>=◌, each, through, fresh, demanded, or_gate, tally}
+use Rattle.clause_builds.specs.Builds.{Build, done, ◌>>=◌, each, through, fresh, demanded, or_gate}
 use Rattle.clause_builds.specs.Rows.{signal_at, or_into, fresh_if, fresh_row}
 
 -- a build takes at most so many variables and clauses

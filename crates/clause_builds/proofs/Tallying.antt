@@ -1,17 +1,17 @@
 -- How many variables and clauses tallies take, and how long they are.
-use Rattle.std.proofs.Common.{◌≡◌, ℕ, zero, suc, ◌+◌, ◌-◌, ◌*◌, ◌≤◌, List, [], ◌∷◌, length, map, All, refl, arith}
+use Rattle.std.proofs.Common.{◌≡◌, ℕ, zero, suc, ◌-◌, ◌*◌, ◌≤◌, List, [], ◌∷◌, length, All, arith}
 use Rattle.std.specs.Prelude.{sum_by}
 use Rattle.std.proofs.lemmas.List.Sums.{sum_by-cons}
 use Rattle.std.proofs.lemmas.List.Elements.{All-nil, All-cons}
 use Rattle.circuit_clauses.specs.declared.signal.Signal.{Signal}
-use Rattle.circuit_clauses.specs.Steps.{variables_after, clauses_of_steps}
+use Rattle.circuit_clauses.specs.Steps.{variables_after}
 use Rattle.circuit_clauses.proofs.Sequences.{variables_above}
 use Rattle.tally_clauses.specs.Tallies.{merge, pair_up, levels, add_up, tally_of}
 use Rattle.tally_clauses.specs.Counts.{potential}
 use Rattle.tally_clauses.proofs.Charges.{AllShort, short_merge, tally_size}
-use Rattle.clause_builds.specs.Builds.{Build, tally}
+use Rattle.clause_builds.specs.Builds.{tally}
 use Rattle.clause_builds.specs.Rows.{singles, count_up}
-use Rattle.clause_builds.proofs.Sizing.{Takes, Makes, AreAll}
+use Rattle.clause_builds.proofs.Sizing.{Takes, Makes}
 
 few_pairs : (limit var : ℕ) (parts : List (List Signal)) → AllShort limit parts → AllShort limit (pair_up limit var parts).tallies
 few_pairs limit var [] h = tt

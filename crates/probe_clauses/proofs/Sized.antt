@@ -1,21 +1,20 @@
 -- A run of a built graph has the sizes that bounds go by.
-use Rattle.std.proofs.Common.{◌≡◌, ℕ, zero, suc, ◌+◌, ◌-◌, ◌*◌, ◌<◌, ◌≤◌, ◌^◌, List, [], ◌∷◌, length, map, take, get_or, reverse, Contains, refl, sym, ap, ◌∙◌, subst, inl, inr, arith, length-append, ◌++◌}
+use Rattle.std.proofs.Common.{◌≡◌, ℕ, zero, suc, ◌+◌, ◌-◌, ◌*◌, ◌<◌, ◌≤◌, ◌^◌, List, [], ◌∷◌, length, map, get_or, Contains, ap, ◌∙◌, inl, inr, arith, length-append}
 use Rattle.std.proofs.lemmas.Bool.{cases_lt}
 use Rattle.std.proofs.lemmas.List.{length-reverse, length-take, get_or-map}
 use Rattle.std.proofs.lemmas.List.Elements.{Contains-get_or}
 use Rattle.coco_base.specs.declared.cell.Kind.{Kind}
 use Rattle.coco_base.specs.declared.cell.Kind.TheVariants.{Buf, Not, And, Nand, Or, Nor, Xor, Xnor, AndNot, OrNot, Mux, Nmux, Aoi3, Oai3, Aoi4, Oai4}
 use Rattle.coco_base.specs.declared.netlist.FlatCell.{FlatCell}
-use Rattle.coco_base.specs.declared.netlist.Wire.{Wire}
-use Rattle.circuit_clauses.specs.Steps.{variables_after, clauses_of_steps}
+use Rattle.circuit_clauses.specs.Steps.{clauses_of_steps}
 use Rattle.circuit_clauses.specs.Formulas.{Formula, Fits}
 use Rattle.clause_builds.specs.Builds.{after}
 use Rattle.coco_model.specs.Cells.{input_count}
-use Rattle.coco_model.specs.Netlist.{wires_of, IsInRange}
+use Rattle.coco_model.specs.Netlist.{wires_of}
 use Rattle.gate_graph.specs.Graphs.{Gates, IsBuilt}
-use Rattle.gate_graph.specs.Ranks.{output_rank, IsRankOrder, AreRanks}
+use Rattle.gate_graph.specs.Ranks.{output_rank}
 use Rattle.probe_clauses.specs.RunViews.{RunView}
-use Rattle.probe_clauses.specs.Probings.{probing_of, wires_of_cell}
+use Rattle.probe_clauses.specs.Probings.{probing_of}
 use Rattle.probe_clauses.specs.Parts.{probe_part}
 use Rattle.probe_clauses.specs.Laws.{IsWithin, most_variables, most_clauses}
 use Rattle.probe_clauses.proofs.Sizes.{IsSized}

@@ -1,32 +1,22 @@
 -- How many variables and clauses each pass takes.
-use Rattle.std.proofs.Common.{◌≡◌, ℕ, zero, suc, ◌+◌, ◌-◌, ◌*◌, ◌/◌, ◌%◌, ◌≤◌, ◌||◌, Bool, true, false, cond, nat_eq, nat_lt, nat_le, List, [], ◌∷◌, ◌++◌, length, map, take, reverse, get_or, refl, sym, ap, ◌∙◌, subst, arith}
-use Rattle.std.specs.Prelude.{sum_by}
+use Rattle.std.proofs.Common.{◌≡◌, ℕ, ◌+◌, ◌-◌, ◌*◌, ◌/◌, ◌%◌, ◌≤◌, ◌||◌, Bool, true, false, cond, nat_eq, nat_lt, nat_le, List, [], ◌∷◌, length, reverse, arith}
 use Rattle.std.specs.List.{range_with_len}
-use Rattle.std.proofs.Math.Nat.{mul-le-mul, mul-le-mul_left, mul-le-mul_right}
-use Rattle.std.proofs.lemmas.List.{length-map}
-use Rattle.std.proofs.lemmas.List.FromFn.{length-range_with_len, length-map-range_with_len}
-use Rattle.std.proofs.lemmas.List.Sums.{sum_by-cons}
+use Rattle.std.proofs.Math.Nat.{mul-le-mul_right}
+use Rattle.std.proofs.lemmas.List.FromFn.{length-range_with_len}
 use Rattle.coco_base.specs.declared.netlist.Wire.{Wire}
 use Rattle.coco_base.specs.declared.netlist.Wire.TheVariants.{Const, Bit}
 use Rattle.circuit_clauses.specs.declared.signal.Signal.{Signal}
 use Rattle.circuit_clauses.specs.declared.signal.Signal.TheVariants.{Constant}
-use Rattle.circuit_clauses.specs.Signals.{negated}
-use Rattle.tally_clauses.specs.Counts.{potential}
-use Rattle.tally_clauses.proofs.Charges.{AllShort}
-use Rattle.clause_builds.specs.Builds.{Build, done, ◌>>=◌, each, through, fresh, demanded, tally}
+use Rattle.clause_builds.specs.Builds.{Build, done, ◌>>=◌}
 use Rattle.clause_builds.specs.Rows.{signal_at, fresh_row, count_up}
-use Rattle.clause_builds.proofs.Sizing.{Takes, Makes, AreAll, takes_more, takes-done, makes-done, takes-bind, takes-bind_of, makes-bind, takes-each, takes-through, makes-each, takes-fresh, takes-demanded, takes-or_gate, takes-or_into, takes-fresh_row}
-use Rattle.clause_builds.proofs.Tallying.{IsWorth, takes-tally, takes-count_up, makes-count_up}
+use Rattle.clause_builds.proofs.Sizing.{Takes, Makes, takes_more, takes-done, makes-done, takes-bind, makes-bind, takes-through, takes-or_gate, takes-or_into, takes-fresh_row}
+use Rattle.clause_builds.proofs.Tallying.{IsWorth, takes-count_up, makes-count_up}
 use Rattle.probe_clauses.specs.declared.counted.Counted.{Counted}
-use Rattle.probe_clauses.specs.declared.shown.Shown.{Shown}
-use Rattle.probe_clauses.specs.declared.groups.Grouped.{Grouped}
-use Rattle.probe_clauses.specs.Probings.{Probing, all_bits, all_cycles, probed, moving, is_moving, is_pair, open_wire}
-use Rattle.probe_clauses.specs.Rows.{at, picked, counted, counted_row, counts_of, column, some_counted}
+use Rattle.probe_clauses.specs.Probings.{Probing, open_wire}
+use Rattle.probe_clauses.specs.Rows.{picked, counted, counted_row}
 use Rattle.probe_clauses.specs.Windows.{either, to_block_end, next_tail, tails, from_block_start, over_window, Lasting, lasting, keep_lasting, next_lasting, heads, windowed}
 use Rattle.probe_clauses.proofs.Ranges.{length-backwards}
 use Rattle.probe_clauses.specs.Walks.{pass_to, pass_at, pass_on, walk_down}
-use Rattle.probe_clauses.specs.Passes.{groups, near_groups, grouped_by, group_bits, probes_in, probe_rows, bound_probes, probes, activities, hot_cycles, imply, imply_all, link, link_where, moving_actives, link_of, links, starts_in, reached_in, reached, show_pair, chosen_pair, pair_of, pairs_in, pairs}
-use Rattle.probe_clauses.specs.Parts.{shown_by, part_of, shown_of, probe_part}
 
 -- what sizes go by: a cell has at most 4 wires, there are no more cells than bits, and some probe may be chosen
 pub record IsSized (run : Probing) : Type 0 where

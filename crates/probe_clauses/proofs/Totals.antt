@@ -1,8 +1,6 @@
 -- How many variables and clauses all passes take together.
-use Rattle.std.proofs.Common.{◌≡◌, ℕ, zero, suc, ◌+◌, ◌-◌, ◌*◌, ◌≤◌, Bool, true, false, cond, List, [], ◌∷◌, length, map, take, get_or, refl, sym, ap, ◌∙◌, subst, arith}
+use Rattle.std.proofs.Common.{◌≡◌, ℕ, zero, suc, ◌+◌, ◌*◌, ◌≤◌, false, List, [], ◌∷◌, length, map, take, get_or, refl, ap, ◌∙◌, subst, arith}
 use Rattle.std.specs.Prelude.{sum_by}
-use Rattle.std.specs.List.{range_with_len}
-use Rattle.std.proofs.Math.Nat.{mul-le-mul_left}
 use Rattle.std.proofs.lemmas.List.{length-map}
 use Rattle.std.proofs.lemmas.List.FromFn.{length-range_with_len, length-map-range_with_len}
 use Rattle.std.proofs.lemmas.List.Sums.{sum_by-cons}
@@ -11,17 +9,17 @@ use Rattle.circuit_clauses.specs.declared.signal.Signal.TheVariants.{Constant}
 use Rattle.circuit_clauses.specs.Signals.{negated}
 use Rattle.tally_clauses.specs.Counts.{potential}
 use Rattle.tally_clauses.proofs.Charges.{AllShort}
-use Rattle.clause_builds.specs.Builds.{Build, done, ◌>>=◌, fresh, demanded, tally}
+use Rattle.clause_builds.specs.Builds.{done, ◌>>=◌, fresh, demanded, tally}
 use Rattle.clause_builds.specs.Rows.{signal_at}
 use Rattle.clause_builds.proofs.Sizing.{Takes, Makes, AreAll, takes_more, takes-done, makes-done, takes-bind, takes-bind_of, makes-bind, takes-each, takes-through, makes-each, takes-fresh, takes-demanded}
-use Rattle.clause_builds.proofs.Tallying.{IsWorth, takes-tally}
+use Rattle.clause_builds.proofs.Tallying.{takes-tally}
 use Rattle.probe_clauses.specs.declared.counted.Counted.{Counted}
 use Rattle.probe_clauses.specs.declared.shown.Shown.{Shown}
 use Rattle.probe_clauses.specs.declared.groups.Grouped.{Grouped}
 use Rattle.probe_clauses.specs.Probings.{Probing, all_bits, all_cycles, can_probe, probed, is_moving, moving, is_pair}
-use Rattle.probe_clauses.specs.Rows.{at, picked, counted_row, counts_of, column, some_counted}
+use Rattle.probe_clauses.specs.Rows.{at, counted_row, counts_of, column, some_counted}
 use Rattle.probe_clauses.specs.Windows.{windowed}
-use Rattle.probe_clauses.specs.Passes.{groups, near_groups, grouped_by, group_bits, probes_in, probe_rows, bound_probes, probes, activities, hot_cycles, imply, imply_all, link, link_where, moving_actives, link_of, links, starts_in, reached_in, reached, show_pair, chosen_pair, pair_of, pairs_in, pairs}
+use Rattle.probe_clauses.specs.Passes.{groups, near_groups, grouped_by, group_bits, probes_in, probe_rows, bound_probes, probes, activities, hot_cycles, imply, imply_all, link, moving_actives, link_of, links, starts_in, reached_in, reached, show_pair, chosen_pair, pair_of, pairs_in, pairs}
 use Rattle.probe_clauses.specs.Parts.{shown_by, part_of, shown_of, probe_part}
 use Rattle.probe_clauses.proofs.Sizes.{IsSized, worth_of, IsCountedRow, length-picked, takes-cond, free, takes-counted, makes-counted, takes-walk_down, takes-windowed}
 

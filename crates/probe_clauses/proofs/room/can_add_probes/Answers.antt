@@ -1,4 +1,4 @@
-use Rattle.std.proofs.Common.{◌≡◌, ◌∙◌}
+use Rattle.std.proofs.Common.{◌∙◌}
 use Rattle.probe_clauses.proofs.Sized.{room_fits}
 use Rattle.probe_clauses.proofs.room.can_add_probes.Goals as goal
 
