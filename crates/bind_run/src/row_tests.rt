@@ -174,6 +174,18 @@ fn an_echo_starts_at_0_and_names_its_source(rt: HostRuntime) -> Result<(), Fail>
 }
 
 #[test]
+fn a_reset_is_a_control_of_its_input(rt: HostRuntime) -> Result<(), Fail> {
+    let rows = "in rst\nq = $_DFF_PN0_(D: q, C: clk, R: rst, Q: q)";
+    let setup = bound(&rt, rt.alloc(), rows, "clock clk\ninput rst 1 0")?;
+    assert!(rt; values(&setup, 1) == [Start::Public(true), Start::Public(false)].as_slice());
+    let [control] = setup.controls.as_slice() else {
+        panic!(rt; "one control");
+    };
+    assert!(rt; is_control(Some(control), "rst", 1, When::Always));
+    Ok(())
+}
+
+#[test]
 fn fresh_labels_are_counted_within_a_cycle(rt: HostRuntime) -> Result<(), Fail> {
     let file = "mask m 1\nclock clk\nfresh f x\nfresh g y\ninput h m 0";
     let setup = bound(&rt, rt.alloc(), "in f 2\nin g\nin h", file)?;
@@ -230,5 +242,18 @@ fn a_word_leaf_starts_as_its_word(rt: HostRuntime) -> Result<(), Fail> {
             && start(&setup, 104) == Some(Start::Label(0))
     );
     assert!(rt; start(&setup, 105) == Some(Start::Public(false)));
+    Ok(())
+}
+
+#[test]
+fn a_word_leaf_is_bound_whatever_the_write_is(rt: HostRuntime) -> Result<(), Fail> {
+    let alloc = rt.alloc();
+    let lines =
+        "version 2\nsecret a 1 2\nclock clk\nreg q a.1\ndmem req we be addr wd rdata\ninput req 1\n\
+        input we 0\ninput be 15\ninput addr 0x10000\nmem 0x10000 a.0\nleaf 0x10000";
+    let setup = bound(&rt, alloc, LEAVES, lines)?;
+    assert!(rt; setup.starts.len() == 104 && setup.leaves.len() == 1);
+    assert!(rt; values(&setup, 2) == [Start::Public(false)].as_slice());
+    assert!(rt; start(&setup, 72) == Some(Start::Label(0)));
     Ok(())
 }
