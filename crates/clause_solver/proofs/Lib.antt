@@ -13,3 +13,4 @@ pub mod BeginFacts
 pub mod OutcomeFacts
 pub mod TurnFacts
 pub mod LineCount
+pub mod RestartFacts

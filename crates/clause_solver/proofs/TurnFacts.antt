@@ -1,19 +1,20 @@
 -- What a search has before its first line.
-use Rattle.std.proofs.Common.{◌≡◌, ◌≢◌, ℕ, ◌*◌, ◌≤◌, ◌^◌, false, List, [], sym, ap, subst}
-use Rattle.std.specs.Prelude.{All}
+use Rattle.std.proofs.Common.{◌≡◌, ◌≢◌, ℕ, ◌*◌, ◌<◌, ◌≤◌, ◌^◌, false, List, [], length, refl, sym, ap, subst, ◌∙◌, arith}
+use Rattle.std.specs.Prelude.{All, slice_index}
 use Rattle.std.proofs.Math.ListN.{replicate}
 use Rattle.std.proofs.lemmas.List.{append-nil}
 use Rattle.clause_store.specs.declared.lit.Lit.{Lit}
 use Rattle.clause_store.specs.Signs.{Ascends}
 use Rattle.clause_store.specs.Derivations.{clauses_of}
-use Rattle.clause_solver.specs.Trails.{History, untouched}
+use Rattle.clause_solver.specs.Trails.{History, untouched, undone}
 use Rattle.clause_solver.specs.Propagation.{IsOver, IsExplained, IsBrokenAt}
 use Rattle.clause_solver.specs.Watches.{Watching, IsWatching, IsWatched}
 use Rattle.clause_solver.specs.Outcomes.{IsReady}
-use Rattle.clause_solver.specs.Turns.{IsUntouched}
+use Rattle.clause_solver.specs.Turns.{IsUntouched, IsGoing}
 use Rattle.clause_solver.specs.declared.turn.State.{State}
 use Rattle.clause_solver.proofs.OutcomeFacts.{ready_new, ready_searched}
 use Rattle.clause_solver.proofs.BeginFacts.{watching_none}
+use Rattle.clause_solver.proofs.WatchJumps.{watched_undo}
 
 -- what is asked of a store and its variables
 pub record IsPosed (store : List (List Lit)) (vars : ℕ) : Type 0 where
@@ -50,3 +51,13 @@ begun_watched store vars s h w u x =
 pub begun_broken : (store : List (List Lit)) (vars : ℕ) (s : State) (lits : List Lit) (id : ℕ) → IsUntouched vars s → IsBrokenAt store lits id → IsBrokenAt (clauses_of store s.lines) lits id
 begun_broken store vars s lits id u b =
     subst (λ ls. IsBrokenAt (clauses_of store ls) lits id) (sym u.lines) (subst (λ cs. IsBrokenAt cs lits id) (sym (no_lines store)) b)
+
+-- all decisions are taken back
+pub going_undone : (store : List (List Lit)) (s after : State) → IsGoing store s → 0 < length s.trail.starts → after.trail ≡ undone s.trail 0 → after.watches ≡ s.watches → after.head ≡ slice_index s.trail.starts 0 → after.marks ≡ s.marks → after.lines ≡ s.lines → IsGoing store after
+going_undone store s after g some trail watches head marks lines =
+    let back : IsWatched (clauses_of store s.lines) (undone s.trail 0) s.watches (slice_index s.trail.starts 0) = watched_undo (clauses_of store s.lines) s.trail s.watches 0 g.watched.guarded some in
+    let ready : IsReady store s.lines (undone s.trail 0) s.marks.items = ready_searched store s.lines s.trail (undone s.trail 0) s.marks.items g.ready back.guarded.explained refl in
+    record {
+      ready = rw (lines, trail, marks) ready;
+      watched = rw (lines, trail, watches, head) back;
+    }

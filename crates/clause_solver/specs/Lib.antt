@@ -6,4 +6,5 @@ pub mod Analysis
 pub mod Jumps
 pub mod Outcomes
 pub mod Turns
+pub mod Restarts
 pub mod Laws

@@ -14,6 +14,7 @@ pub mod laws;
 mod marks;
 pub mod outcome;
 mod propagate;
+pub mod restarts;
 mod search;
 mod solver;
 mod standing;
@@ -25,4 +26,5 @@ mod watches;
 
 pub use laws::{few_lines, none_after_empty};
 pub use outcome::Outcome;
-pub use solver::solve;
+pub use restarts::luby;
+pub use solver::{solve, solve_list};

@@ -9,6 +9,7 @@ use pickers::{FirstOpen, LastBumped, MostBumped, Picker};
 use std::alloc::Global;
 use std::process::Abort;
 
+mod lists;
 mod picks;
 mod random;
 

@@ -1,4 +1,5 @@
-ghost use Rattle.std.specs.Prelude.{◌≡◌, ℕ, ◌+◌, ◌<◌, ◌≤◌, ◌^◌, [], length, IfOk, OnOk};
+ghost use Rattle.std.specs.Prelude.{◌≡◌, ℕ, ◌+◌, ◌<◌, ◌≤◌, ◌^◌, List as Items, [], length, slice_index, IfOk, OnOk};
+ghost use Rattle.clause_store.specs.declared.lit.Lit.{Lit as StoredLit};
 ghost use Rattle.clause_store.specs.Derivations.{clauses_of};
 ghost use Rattle.clause_solver.specs.Propagation.{IsExplained, IsBrokenAt};
 ghost use Rattle.clause_solver.specs.Watches.{IsWatching, IsGuarded};
@@ -94,6 +95,21 @@ fn bump_cuts(picker: &mut Box<dyn Picker>, line: &Line) {
     for cut in line.cuts.as_slice() {
         picker.bump(cut.var);
     }
+}
+
+/// Takes back all decisions.
+pub(crate) fn begin_anew(state: &mut State)
+    requires bounded { (k : ℕ) → k < length state.old.trail.starts
+        → slice_index state.old.trail.starts k < length state.old.trail.lits }
+    ensures going { (store : Items (Items StoredLit)) → IsGoing store state.old → IsGoing store state.new }
+    ensures lines { state.new.lines ≡ state.old.lines }
+    ensures vars { state.new.trail.vars ≡ state.old.trail.vars }
+{
+    if state.trail.levels() == 0 {
+        return;
+    }
+    state.trail.undo(0);
+    state.head = state.trail.len();
 }
 
 /// Adds the line that comes from a clause that is false before anything was decided.

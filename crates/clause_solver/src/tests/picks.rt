@@ -10,9 +10,9 @@ use std::rc::Rc;
 use std::test::Fail;
 
 /// Picks as `FirstOpen`, and counts its picks and its drops.
-struct Counting {
-    picks: Rc<Cell<u32>>,
-    drops: Rc<Cell<u32>>,
+pub(super) struct Counting {
+    pub(super) picks: Rc<Cell<u32>>,
+    pub(super) drops: Rc<Cell<u32>>,
 }
 
 impl Drop for Counting {

@@ -34,6 +34,21 @@ fn random_clause(state: u64) -> [Lit; 3] {
     ]
 }
 
+/// This number of clauses over 20 variables, at random.
+pub(super) fn random_store(
+    rt: &impl Abort,
+    alloc: Global,
+    clauses: u32,
+) -> Result<Store, NoMemory> {
+    let mut state = 7u64;
+    let mut store = Store::new(alloc);
+    for _ in 0..clauses {
+        state = next_number(state);
+        add(rt, &mut store, &random_clause(state))?;
+    }
+    Ok(store)
+}
+
 /// Answers by chance: few clauses are met, many are refuted.
 fn assert_random(
     rt: &impl Abort,
@@ -41,12 +56,7 @@ fn assert_random(
     clauses: u32,
     can_be_met: bool,
 ) -> Result<(), NoMemory> {
-    let mut state = 7u64;
-    let mut store = Store::new(alloc);
-    for _ in 0..clauses {
-        state = next_number(state);
-        add(rt, &mut store, &random_clause(state))?;
-    }
+    let store = random_store(rt, alloc, clauses)?;
     let picker = Box::new(alloc, MostBumped::new(alloc, 20)?)?;
     match solved(rt, alloc, &store, 20, 100_000, picker)? {
         Outcome::Satisfied(values) => {
