@@ -5,6 +5,7 @@ pub mod PropagationFacts
 pub mod CountFacts
 pub mod WatchFacts
 pub mod SettleFacts
+pub mod GuardFacts
 pub mod MarkFacts
 pub mod AnalysisFacts
 pub mod JumpFacts
@@ -13,4 +14,6 @@ pub mod BeginFacts
 pub mod OutcomeFacts
 pub mod TurnFacts
 pub mod LineCount
+pub mod LubyFacts
 pub mod RestartFacts
+pub mod TakenFacts

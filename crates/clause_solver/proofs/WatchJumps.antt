@@ -17,7 +17,8 @@ use Rattle.clause_solver.proofs.SignFacts.{present, is_present, sign_at, sign_of
 use Rattle.clause_solver.proofs.PropagationFacts.{explained_push, held_range}
 use Rattle.clause_solver.proofs.JumpFacts.{front_undone, explained_undo, explained_jump}
 use Rattle.clause_solver.proofs.WatchFacts.{code_less, watching_paired, watching_unpaired}
-use Rattle.clause_solver.proofs.SettleFacts.{settled_more, unit_true}
+use Rattle.clause_solver.proofs.SettleFacts.{settled_more}
+use Rattle.clause_solver.proofs.GuardFacts.{unit_true, opposite_twice}
 
 -- one clause more, which is settled too
 pub settled_new : (clauses : List (List Lit)) (c : List Lit) (w after : Watching) (pair : Option Pair) (front lits : List Lit) → after.pairs ≡ w.pairs ++ pair ∷ [] → length w.pairs ≡ length clauses → IsSettled clauses w front lits → IsSettledFor front lits c pair → IsSettled (clauses ++ c ∷ []) after front lits
@@ -121,13 +122,6 @@ pub record IsSecond (h : History) (c : List Lit) (kept level : ℕ) (lit other :
   pub kept_is : kept ≡ place + 1
   pub at_place : slice_get h.lits place ≡ Some (opposite_of other)
 
-opposite_back : (m : Lit) → opposite_of (opposite_of m) ≡ m
-opposite_back m = by m.positive
-  where
-    by : (b : Bool) → opposite_of (record { var = m.var; positive = not b }) ≡ record { var = m.var; positive = b }
-    by true = refl
-    by false = refl
-
 pub jump_second : (clauses : List (List Lit)) (h : History) (c : List Lit) (kept level : ℕ) (lit other : Lit) → IsExplained clauses h → IsJump h c kept level → IsUnitOpen (take (slice_index h.starts level) h.lits) c lit → IsLastOf h.lits kept (Some other) → IsSecond h c kept level lit other
 jump_second clauses h c kept level lit other x j u last = by j.places.ends
   where
@@ -156,7 +150,7 @@ jump_second clauses h c kept level lit other x j u last = by j.places.ends
           pair = record { one = u.unit.holds; other = subst (Holds c) (sym other_is) holds; differ = λ same. apart (sym (same ∙ ap (λ (l : Lit). l.var) other_is)) };
           place = ends.place;
           kept_is = at_kept;
-          at_place = ends.at_place ∙ ap (λ (l : Lit). Some l) (sym (ap opposite_of other_is ∙ opposite_back ends.lit));
+          at_place = ends.at_place ∙ ap (λ (l : Lit). Some l) (sym (ap opposite_of other_is ∙ opposite_twice ends.lit));
         }
 
 -- before each decision that is kept neither of the two is false

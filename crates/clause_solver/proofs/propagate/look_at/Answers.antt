@@ -9,7 +9,8 @@ use Rattle.clause_solver.specs.Propagation.{IsUnitOpen}
 use Rattle.clause_solver.specs.Watches.{code_of, pair_lits, listed_under, pair_of, rewatched, IsIn, IsPartner, IsPending}
 use Rattle.clause_solver.proofs.PropagationFacts.{range_at, held_range}
 use Rattle.clause_solver.proofs.WatchFacts.{code_less, listed_other, pair_there}
-use Rattle.clause_solver.proofs.SettleFacts.{IsWatchedBy, partner_is, pending_next, pending_removed, pending_rewatched, pending_push, guarded_removed, guarded_rewatched, guarded_push, alive_other, rewatched_lacks, entry_kept, removed_count, unit_open, unit_true, broken_is, holds_true}
+use Rattle.clause_solver.proofs.SettleFacts.{pending_next, pending_removed, pending_rewatched, pending_push}
+use Rattle.clause_solver.proofs.GuardFacts.{IsWatchedBy, partner_is, guarded_removed, guarded_rewatched, guarded_push, alive_other, rewatched_lacks, entry_kept, removed_count, unit_open, unit_true, broken_is, holds_true}
 use Rattle.clause_solver.proofs.propagate.look_at.Goals as goal
 
 pub is_true-requires : goal.is_true-requires

@@ -4,7 +4,8 @@ use Rattle.clause_store.specs.declared.lit.Lit.{Lit}
 use Rattle.clause_store.specs.Derivations.{clauses_of}
 use Rattle.clause_solver.specs.Watches.{opposite_of}
 use Rattle.clause_solver.proofs.PropagationFacts.{extends_itself, extends_trans}
-use Rattle.clause_solver.proofs.SettleFacts.{pending_first, pending_last, opposite_twice, extends_at}
+use Rattle.clause_solver.proofs.SettleFacts.{pending_first, pending_last}
+use Rattle.clause_solver.proofs.GuardFacts.{opposite_twice, extends_at}
 use Rattle.clause_solver.proofs.propagate.visit_all.Goals as goal
 
 pub visiting-init : goal.visiting-init

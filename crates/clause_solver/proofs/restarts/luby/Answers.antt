@@ -1,5 +1,5 @@
 use Rattle.std.proofs.Common.{arith}
-use Rattle.clause_solver.proofs.RestartFacts.{sought_first, sought_found, sought_low, sought_high, sought_none}
+use Rattle.clause_solver.proofs.LubyFacts.{sought_first, sought_found, sought_low, sought_high}
 use Rattle.clause_solver.proofs.restarts.luby.Goals as goal
 
 pub halving-init : goal.halving-init

@@ -1,4 +1,4 @@
-use Rattle.clause_solver.proofs.RestartFacts.{IsSought}
+use Rattle.clause_solver.proofs.LubyFacts.{IsSought}
 use Rattle.clause_solver.proofs.restarts.luby.Given as goal
 
 abbrev pub invariant-halving : goal.invariant-halving

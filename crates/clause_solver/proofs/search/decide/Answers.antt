@@ -1,7 +1,7 @@
 use Rattle.std.proofs.Common.{◌≡◌, ℕ, None, false, ◌∙◌, ap}
 use Rattle.clause_store.specs.declared.lit.Lit.{Lit}
 use Rattle.clause_solver.specs.Trails.{IsCoherent, pushed, opened}
-use Rattle.clause_solver.proofs.SettleFacts.{watched_decide}
+use Rattle.clause_solver.proofs.GuardFacts.{watched_decide}
 use Rattle.clause_solver.proofs.search.decide.Goals as goal
 
 abbrev decision : (var : ℕ) → Lit

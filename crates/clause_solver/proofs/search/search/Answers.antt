@@ -1,7 +1,7 @@
 use Rattle.std.proofs.Common.{length, take}
 use Rattle.clause_store.specs.Derivations.{clauses_of}
 use Rattle.clause_solver.specs.Watches.{IsSettled}
-use Rattle.clause_solver.proofs.SettleFacts.{settled_closed}
+use Rattle.clause_solver.proofs.GuardFacts.{settled_closed}
 use Rattle.clause_solver.proofs.search.search.Goals as goal
 
 pub returns-in-None-next_unset-clause-searched : goal.returns-in-None-next_unset-clause-searched

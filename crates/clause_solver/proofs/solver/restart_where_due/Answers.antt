@@ -1,4 +1,4 @@
-use Rattle.clause_solver.proofs.RestartFacts.{left_zero, left_one}
+use Rattle.clause_solver.proofs.TakenFacts.{left_zero, left_one}
 use Rattle.clause_solver.proofs.solver.restart_where_due.Goals as goal
 
 pub returns-then-not-is_due-clause-left : goal.returns-then-not-is_due-clause-left

@@ -5,7 +5,8 @@ use Rattle.clause_solver.specs.Watches.{IsWatched}
 use Rattle.clause_solver.specs.Turns.{IsMetBy, IsRefuted, HasLearnt}
 use Rattle.clause_solver.proofs.LineCount.{few_lines}
 use Rattle.clause_solver.proofs.OutcomeFacts.{solution}
-use Rattle.clause_solver.proofs.RestartFacts.{no_restarts, going_on, going_restarts, planned_restarts, left_none, length_left, left_since, left_front}
+use Rattle.clause_solver.proofs.RestartFacts.{no_restarts, going_on, going_restarts, planned_restarts}
+use Rattle.clause_solver.proofs.TakenFacts.{left_none, length_left, left_since, left_front}
 use Rattle.clause_solver.proofs.TurnFacts.{IsPosed, untouched_explained, begun_ready, begun_watched}
 use Rattle.clause_solver.proofs.solver.search_lines.Goals as goal
 

@@ -1,7 +1,7 @@
 use Rattle.std.proofs.Common.{◌≡◌, ◌+◌, ◌-◌, length, take, min, IfOk, ap, ◌∙◌, arith}
 use Rattle.clause_solver.specs.Outcomes.{IsOutcome}
 use Rattle.clause_solver.specs.Restarts.{AreLeft, TakesOthers, TakesPickers}
-use Rattle.clause_solver.proofs.RestartFacts.{left_front, length_left, front_again, front_less, both_ok, takes_first}
+use Rattle.clause_solver.proofs.TakenFacts.{left_front, length_left, front_again, front_less, both_ok, takes_first}
 use Rattle.clause_solver.proofs.solver.solve_list.Goals as goal
 
 pub returns-in-None-clause-fewer : goal.returns-in-None-clause-fewer

@@ -8,7 +8,7 @@ use Rattle.clause_solver.specs.Propagation.{IsExplained}
 use Rattle.clause_solver.proofs.PropagationFacts.{explained_push, range_at, held_range}
 use Rattle.clause_solver.proofs.StandingFacts.{ascends_sign}
 use Rattle.clause_solver.proofs.WatchFacts.{code_less}
-use Rattle.clause_solver.proofs.SettleFacts.{unit_true}
+use Rattle.clause_solver.proofs.GuardFacts.{unit_true}
 use Rattle.clause_solver.proofs.BeginFacts.{begin_none, begin_pair, first_two, short_not_loose}
 use Rattle.clause_solver.proofs.turn.watch_store.Goals as goal
 use Rattle.clause_solver.proofs.turn.watch_store.Goals.{then-clause-lt2+in_ok-add_none+in-Unit+in_ok-push-in-Unit, then-clause-lt2+in_ok-add_none+in-Met, then-clause-lt2+in_ok-add_none+in-Loose, else-clause-lt2+in_ok-add_pair}

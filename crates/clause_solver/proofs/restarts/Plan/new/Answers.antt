@@ -1,4 +1,4 @@
-use Rattle.std.proofs.Common.{◌≡◌, ◌*◌, ap}
+use Rattle.std.proofs.Common.{◌*◌, ap}
 use Rattle.clause_solver.proofs.RestartFacts.{planned_first}
 use Rattle.clause_solver.proofs.restarts.Plan.new.Goals as goal
 
