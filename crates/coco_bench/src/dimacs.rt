@@ -4,7 +4,8 @@ use coco_base::NoMemory;
 use std::alloc::Global;
 
 /// The formula of a text in the DIMACS form, one clause a line: numbers of literals and a 0. Lines that begin with `c`
-/// or `p` say nothing here, and words that are no numbers end a clause.
+/// or `p` say nothing here, and words that are no numbers end a clause. A literal that stands twice in a clause counts
+/// once, and a clause with a variable in both signs, which all values meet, is left out.
 pub(crate) fn read(alloc: Global, text: &str) -> Result<Formula, NoMemory> {
     let mut store = Store::new(alloc);
     let mut vars = 0u32;
@@ -23,6 +24,7 @@ pub(crate) fn read(alloc: Global, text: &str) -> Result<Formula, NoMemory> {
             }
         }
         lits.sort_unstable_by_key(|lit| lit.var);
+        lits.dedup();
         add(&mut store, lits.as_slice())?;
     }
     Ok(Formula { store, vars })

@@ -54,6 +54,27 @@ fn seat_literal(pigeon: u32, hole: u32, holes: u32, positive: bool) -> Lit {
     }
 }
 
+/// That each variable but the last makes the next one true, the last implication first, and then that the first variable
+/// is true and the last one false. No values meet it.
+pub(crate) fn implications(alloc: Global, vars: u32) -> Result<Formula, NoMemory> {
+    let mut store = Store::new(alloc);
+    for next in (1..vars).rev() {
+        let one = Lit {
+            var: next - 1,
+            positive: false,
+        };
+        let other = Lit {
+            var: next,
+            positive: true,
+        };
+        add(&mut store, &[one, other])?;
+    }
+    for (var, positive) in [(0, true), (vars.saturating_sub(1), false)] {
+        add(&mut store, &[Lit { var, positive }])?;
+    }
+    Ok(Formula { store, vars })
+}
+
 /// Clauses of three different variables by chance, 4.26 times as many as variables: about half of such formulas can be
 /// met.
 pub(crate) fn random(alloc: Global, vars: u32, seed: u64) -> Result<Formula, NoMemory> {

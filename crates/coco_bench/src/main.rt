@@ -18,7 +18,7 @@ use std::rt::Files;
 use std::{fs, io};
 
 const USAGE: &str =
-    "coco_bench cells COUNT | inverters COUNT | pigeonholes HOLES | random VARS SEED | formula FILE";
+    "coco_bench cells COUNT | inverters COUNT | pigeonholes HOLES | implications VARS | random VARS SEED | formula FILE";
 
 /// What is to be done.
 #[derive(Drop)]
@@ -56,6 +56,10 @@ fn read_work(rt: &(impl Env + Files + AllocGlobal)) -> io::Result<Work> {
         "cells" => Ok(Work::Cells(number(word.as_str())?)),
         "inverters" => Ok(Work::Inverters(number(word.as_str())?)),
         "pigeonholes" => Ok(Work::Solve(with_io(formula::pigeonholes(
+            alloc,
+            number(word.as_str())?,
+        ))?)),
+        "implications" => Ok(Work::Solve(with_io(formula::implications(
             alloc,
             number(word.as_str())?,
         ))?)),

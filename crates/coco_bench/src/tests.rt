@@ -1,6 +1,6 @@
-ghost use Rattle.std.specs.Prelude.{◌≤◌};
+ghost use Rattle.std.specs.Prelude.{ℕ, ◌<◌, ◌≤◌};
 
-use crate::formula::{Formula, pigeonholes, random};
+use crate::formula::{Formula, implications, pigeonholes, random};
 use crate::inverters::{chain, last_value};
 use crate::solving::all_below;
 use clause_solver::{Outcome, solve};
@@ -90,6 +90,49 @@ fn pigeonholes_are_refuted(rt: HostRuntime) -> Result<(), Fail> {
         let formula = pigeonholes(rt.alloc(), holes)?;
         assert!(rt; !assert_agreed(&rt, rt.alloc(), &formula)?);
     }
+    Ok(())
+}
+
+/// The number of lines of a derivation with the picker that takes the variable with most bumps, which is shown right.
+fn lines_of(
+    rt: &impl Abort,
+    alloc: Global,
+    formula: &Formula,
+    steps: u64,
+) -> Result<usize, NoMemory>
+    requires some { 0 < steps }
+    requires most { steps ≤ 1000000000 }
+{
+    let in_range = formula.vars <= 1 << 30 && all_below(&formula.store, formula.vars);
+    assert!(rt; in_range);
+    let picker = Box::new(alloc, MostBumped::new(alloc, formula.vars)?)?;
+    match solve(alloc, &formula.store, formula.vars, steps, picker)? {
+        Outcome::Derived(derivation) => {
+            let count = derivation.lines.len();
+            assert!(rt; count < 1 << 32);
+            let verdict = check(alloc, &formula.store, &derivation)?;
+            assert_eq!(rt; verdict, Verdict::Empty);
+            Ok(count)
+        }
+        _ => panic!(rt; "no derivation"),
+    }
+}
+
+#[test]
+fn each_run_has_the_same_lines(rt: HostRuntime) -> Result<(), NoMemory> {
+    let alloc = rt.alloc();
+    for (holes, lines) in [(5, 135), (6, 896)] {
+        let formula = pigeonholes(alloc, holes)?;
+        assert_eq!(rt; lines_of(&rt, alloc, &formula, STEPS)?, lines);
+    }
+    Ok(())
+}
+
+#[test]
+fn a_chain_of_implications_is_refuted_by_one_line(rt: HostRuntime) -> Result<(), NoMemory> {
+    let alloc = rt.alloc();
+    let formula = implications(alloc, 200_000)?;
+    assert_eq!(rt; lines_of(&rt, alloc, &formula, 1000)?, 1);
     Ok(())
 }
 
