@@ -1,0 +1,14 @@
+pub mod Meant
+pub mod Numbers
+pub mod Choosing
+pub mod Parities
+pub mod Handing
+pub mod Gates
+pub mod Sets
+pub mod Sound
+pub mod Extending
+pub mod Selecting
+pub mod Kept
+pub mod KeptGates
+pub mod Complete
+pub mod WeighedFlop
