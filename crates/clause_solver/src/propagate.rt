@@ -2,7 +2,7 @@ ghost use Rattle.std.specs.Prelude.{◌≡◌, ◌≢◌, ℕ, ◌+◌, ◌<◌,
 ghost use Rattle.clause_store.specs.Signs.{sign_of};
 ghost use Rattle.clause_store.specs.Derivations.{clauses_of};
 ghost use Rattle.clause_solver.specs.Propagation.{IsInRange, Extends};
-ghost use Rattle.clause_solver.specs.Visits.{IsVisited, IsSettledOr};
+ghost use Rattle.clause_solver.specs.Visits.{IsVisited, IsSettledOr, AreFalseBetween};
 ghost use Rattle.clause_solver.specs.Watches.{listed_under, opposite_of, IsFalse, Holds, IsGuarded, IsPending, IsWatched};
 
 use crate::trail::Trail;
@@ -50,8 +50,44 @@ fn is_false(trail: &Trail, lit: Lit) -> bool
     }
 }
 
-/// A literal of the clause besides one that is not false.
-fn find_awake(trail: &Trail, clause: &[Lit], besides: Lit) -> Option<Lit>
+/// The first place of a clause that is not before a variable.
+fn place_of(clause: &[Lit], var: u32) -> usize
+    ensures { result ≤ length clause.now }
+{
+    let mut low = 0;
+    let mut high = clause.len();
+    'halving: while low < high {
+        let middle = low + (high - low) / 2;
+        if clause[middle].var < var {
+            low = middle + 1;
+        } else {
+            high = middle;
+        }
+    }
+    low
+}
+
+/// A literal between two places of the clause that is not false, besides one.
+fn find_between(trail: &Trail, clause: &[Lit], besides: Lit, low: usize, high: usize) -> Option<Lit>
+    requires range { IsInRange trail.now.vars clause.now }
+    requires high { high ≤ length clause.now }
+    ensures held { IfSome result (Holds clause.now) }
+    ensures other { IfSome result (λ l. l.var ≢ besides.var) }
+    ensures awake { IfSome result (λ l. IsFalse trail.now.lits l → ⊥) }
+    ensures none { IfNone result (AreFalseBetween trail.now.lits clause.now besides.var low high) }
+{
+    'finding: for place in low..high {
+        let lit = clause[place];
+        if lit.var != besides.var && !is_false(trail, lit) {
+            return Some(lit);
+        }
+    }
+    None
+}
+
+/// A literal of the clause that is not false, besides one. It is sought from a variable on and then from the start, so
+/// that of a long clause each literal is looked at about once as the watched ones become false.
+fn find_awake(trail: &Trail, clause: &[Lit], besides: Lit, var: u32) -> Option<Lit>
     requires { IsInRange trail.now.vars clause.now }
     ensures held { IfSome result (Holds clause.now) }
     ensures other { IfSome result (λ l. l.var ≢ besides.var) }
@@ -59,12 +95,14 @@ fn find_awake(trail: &Trail, clause: &[Lit], besides: Lit) -> Option<Lit>
     ensures none { IfNone result ((w : ℕ) (t : Bool) → w ≢ besides.var → sign_of clause.now w ≡ Some t
         → sign_of trail.now.lits w ≡ Some (not t)) }
 {
-    'finding: for lit in clause {
-        if lit.var != besides.var && !is_false(trail, *lit) {
-            return Some(*lit);
-        }
+    let middle = place_of(clause, var);
+    match find_between(trail, clause, besides, middle, clause.len()) {
+        Some(lit) => Some(lit),
+        None => match find_between(trail, clause, besides, 0, middle) {
+            Some(lit) => Some(lit),
+            None => None,
+        },
     }
-    None
 }
 
 /// An entry of the list of a literal, which is false since a place of the trail.
@@ -105,7 +143,7 @@ fn look_at(
                 if is_true(trail, other) {
                     return Ok(Visit::Stays);
                 }
-                match find_awake(trail, clause, other) {
+                match find_awake(trail, clause, other, spot.lit.var) {
                     Some(new) => {
                         watches.rewatch(id, Pair { one: new, other })?;
                         watches.remove(spot.lit, spot.entry);
