@@ -121,7 +121,7 @@ fn lines_of(
 #[test]
 fn each_run_has_the_same_lines(rt: HostRuntime) -> Result<(), NoMemory> {
     let alloc = rt.alloc();
-    for (holes, lines) in [(5, 135), (6, 896)] {
+    for (holes, lines) in [(5, 148), (6, 808)] {
         let formula = pigeonholes(alloc, holes)?;
         assert_eq!(rt; lines_of(&rt, alloc, &formula, STEPS)?, lines);
     }
