@@ -32,7 +32,7 @@ pub(crate) fn opposite(lit: Lit) -> Lit
 
 fn is_true(trail: &Trail, lit: Lit) -> bool
     requires { lit.var < trail.now.vars }
-    ensures { MatchBool result (sign_of trail.now.lits lit.var ≡ Some lit.positive) (sign_of trail.now.lits lit.var ≢ Some lit.positive) }
+    ensures { MatchBool result (Holds trail.now.lits lit) (Holds trail.now.lits lit → ⊥) }
 {
     match trail.value(lit.var) {
         Some(sign) => sign == lit.positive,

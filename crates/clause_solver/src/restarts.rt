@@ -56,7 +56,8 @@ impl Plan {
         requires planned { IsPlanned self.old.every self.old.restarts self.old.next count }
         ensures going { IsCurrent self.old.every self.new.restarts self.new.next count }
         ensures every { self.new.every ≡ self.old.every }
-        ensures restarts { MatchBool result (self.new.restarts ≡ self.old.restarts + 1) (self.new.restarts ≡ self.old.restarts) }
+        ensures restarts { MatchBool result (self.new.restarts ≡ self.old.restarts + 1)
+            (self.new.restarts ≡ self.old.restarts) }
     {
         if count < self.next {
             return false;
