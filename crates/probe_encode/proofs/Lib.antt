@@ -1,0 +1,5 @@
+pub mod Marked
+pub mod Taken
+pub mod Variables
+pub mod ShareLemmas
+pub mod Starts
