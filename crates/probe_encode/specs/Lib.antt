@@ -5,3 +5,4 @@ pub mod Shares
 pub mod Goals
 pub mod Formulas
 pub mod Sources
+pub mod Laws

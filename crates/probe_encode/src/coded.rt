@@ -83,11 +83,10 @@ pub fn encode(
     requires lasting { 1 ≤ window }
     requires source { let view = view_of graph.now unrolled.now rows.now (query_of clock order window) in
         IsSource view unrolled.now cones.now }
-    requires fits { let view = view_of graph.now unrolled.now rows.now (query_of clock order window) in
-        Fits (encoded (encoding_of view unrolled.now cones.now)).formula }
     ensures { let view = view_of graph.now unrolled.now rows.now (query_of clock order window) in
         IfOk result (λ e. e ≡ encoded (encoding_of view unrolled.now cones.now)) }
 {
+    let _bits = graph.bits(); // the graph is built
     let query = Query {
         clock,
         order,

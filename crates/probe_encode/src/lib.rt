@@ -5,8 +5,10 @@ pub mod coded;
 mod goal;
 pub mod goal_list;
 mod labels;
+pub mod laws;
 pub mod source;
 mod weights;
 mod whole;
 
 pub use coded::{Encoded, encode};
+pub use laws::fit_law;
