@@ -24,7 +24,7 @@ use Rattle.probe_laws.proofs.Walked.{placed_at, placed_long, true_in_row}
 
 -- ---- sums over lists and over the numbers of their places
 
-sum_map : {X Y : Type 0} (f : Y → ℕ) (g : X → Y) (xs : List X) → sum_by f (map g xs) ≡ sum_by (λ x. f (g x)) xs
+pub sum_map : {X Y : Type 0} (f : Y → ℕ) (g : X → Y) (xs : List X) → sum_by f (map g xs) ≡ sum_by (λ x. f (g x)) xs
 sum_map f g [] = refl
 sum_map f g (x ∷ xs) =
     let rest = sum_map f g xs in
@@ -32,7 +32,7 @@ sum_map f g (x ∷ xs) =
     let b = sum_by-cons (λ y. f (g y)) x xs in
     omega arith
 
-sum_same : (f g : ℕ → ℕ) (a n : ℕ) → ((k : ℕ) → a ≤ k → k < a + n → f k ≡ g k) → sum_by f (range_with_len a n) ≡ sum_by g (range_with_len a n)
+pub sum_same : (f g : ℕ → ℕ) (a n : ℕ) → ((k : ℕ) → a ≤ k → k < a + n → f k ≡ g k) → sum_by f (range_with_len a n) ≡ sum_by g (range_with_len a n)
 sum_same f g a zero h = refl
 sum_same f g a (suc n) h =
     let here = h a (omega arith) (omega arith) in
@@ -42,7 +42,7 @@ sum_same f g a (suc n) h =
     omega arith
 
 -- a sum over a list is one over its places
-sum_places : {X : Type 0} (f : X → ℕ) (xs : List X) (n : ℕ) (d : X) → length xs ≡ n → sum_by f xs ≡ sum_by (λ k. f (get_or xs k d)) (range_with_len 0 n)
+pub sum_places : {X : Type 0} (f : X → ℕ) (xs : List X) (n : ℕ) (d : X) → length xs ≡ n → sum_by f xs ≡ sum_by (λ k. f (get_or xs k d)) (range_with_len 0 n)
 sum_places {X = X} f xs n d long =
     let is : xs ≡ map (λ k. get_or xs k d) (range_with_len 0 n) = fill_by_all (λ k. get_or xs k d) xs n d long (λ k lt. refl) in
     ap (λ (ys : List X). sum_by f ys) is ∙ sum_map f (λ k. get_or xs k d) (range_with_len 0 n)
@@ -59,13 +59,13 @@ abbrev pub AreCounted : (ℕ → Bool) → Probing → List Counted → Type 0
 AreCounted values run cycles = ArePlaced (λ t (c : Counted). IsCountedRow values run.order (probed run) c) (all_cycles run) cycles
 
 -- what one cycle counts
-abbrev count_of : (ℕ → Bool) → List Bool → Counted → Count
+abbrev pub count_of : (ℕ → Bool) → List Bool → Counted → Count
 count_of values wanted c = record { tally = c.count; trues = trues values c.row; signals = length (picked wanted c.row) }
 
 abbrev pub sum_of_trues : (ℕ → Bool) → List Counted → ℕ
 sum_of_trues values cycles = sum_by (λ (c : Counted). trues values c.row) cycles
 
-tallies_counts : (values : ℕ → Bool) (wanted : List Bool) (cycles : List Counted) → tallies_of (map (count_of values wanted) cycles) ≡ counts_of cycles
+pub tallies_counts : (values : ℕ → Bool) (wanted : List Bool) (cycles : List Counted) → tallies_of (map (count_of values wanted) cycles) ≡ counts_of cycles
 tallies_counts values wanted [] = refl
 tallies_counts values wanted (c ∷ cycles) = ap (λ (rest : List (List Signal)). c.count ∷ rest) (tallies_counts values wanted cycles)
 

@@ -6,3 +6,16 @@ pub mod Walked
 pub mod Counted
 pub mod Paired
 pub mod Sound
+pub mod Lower
+pub mod Extending
+pub mod LowPasses
+pub mod Converse
+pub mod WalkBack
+pub mod Choosing
+pub mod Filling
+pub mod Grouping
+pub mod Bounding
+pub mod Lasting
+pub mod Acting
+pub mod Complete
+pub mod Orders

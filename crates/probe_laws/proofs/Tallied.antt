@@ -44,7 +44,7 @@ means-tally laws values limit counts all few var h =
 
 -- ---- single signals
 
-abbrev single : (ℕ → Bool) → Signal → Count
+abbrev pub single : (ℕ → Bool) → Signal → Count
 single values s = record { tally = s ∷ []; trues = cond (value values s) 1 0; signals = 1 }
 
 one_at_most : (b : Bool) → cond b 1 0 ≤ 1
@@ -62,21 +62,21 @@ single_is limit values s le = record { places = omega arith; most = one_at_most 
     each zero d lt = one_tells (value values s)
     each (suc k) d lt = absurd (omega arith)
 
-singles_are : (limit : ℕ) (values : ℕ → Bool) (signals : List Signal) → 1 ≤ limit → All (IsCounted limit values) (map (single values) signals)
+pub singles_are : (limit : ℕ) (values : ℕ → Bool) (signals : List Signal) → 1 ≤ limit → All (IsCounted limit values) (map (single values) signals)
 singles_are limit values [] le = All-nil (IsCounted limit values)
 singles_are limit values (s ∷ signals) le =
     All-cons (IsCounted limit values) (single values s) (map (single values) signals) (single_is limit values s le) (singles_are limit values signals le)
 
-few_each : (limit : ℕ) (values : ℕ → Bool) (signals : List Signal) → 1 ≤ limit → All (λ (c : Count). c.trues ≤ limit) (map (single values) signals)
+pub few_each : (limit : ℕ) (values : ℕ → Bool) (signals : List Signal) → 1 ≤ limit → All (λ (c : Count). c.trues ≤ limit) (map (single values) signals)
 few_each limit values [] le = All-nil (λ (c : Count). c.trues ≤ limit)
 few_each limit values (s ∷ signals) le =
     All-cons (λ (c : Count). c.trues ≤ limit) (single values s) (map (single values) signals) (let one = one_at_most (value values s) in omega arith) (few_each limit values signals le)
 
-tallies_singles : (values : ℕ → Bool) (signals : List Signal) → tallies_of (map (single values) signals) ≡ singles signals
+pub tallies_singles : (values : ℕ → Bool) (signals : List Signal) → tallies_of (map (single values) signals) ≡ singles signals
 tallies_singles values [] = refl
 tallies_singles values (s ∷ signals) = ap (λ (rest : List (List Signal)). (s ∷ []) ∷ rest) (tallies_singles values signals)
 
-trues_singles : (values : ℕ → Bool) (signals : List Signal) → all_trues (map (single values) signals) ≡ trues values signals
+pub trues_singles : (values : ℕ → Bool) (signals : List Signal) → all_trues (map (single values) signals) ≡ trues values signals
 trues_singles values [] = refl
 trues_singles values (s ∷ signals) =
     let rest = trues_singles values signals in
@@ -126,7 +126,7 @@ means-fresh_row values wanted =
     })
 
 -- the places that are not wanted count nothing
-trues-picked : (values : ℕ → Bool) (wanted : List Bool) (row : List Signal) → length row ≡ length wanted
+pub trues-picked : (values : ℕ → Bool) (wanted : List Bool) (row : List Signal) → length row ≡ length wanted
     → ((k : ℕ) → value_at values row k ≡ true → get_or wanted k false ≡ true) → trues values (picked wanted row) ≡ trues values row
 trues-picked values [] [] e h = refl
 trues-picked values [] (s ∷ row) e h = absurd (omega arith)

@@ -17,10 +17,10 @@ use Rattle.probe_laws.proofs.Meant.{Means, means-done, means-bind, means_more, m
 
 -- ---- cycles and their blocks
 
-within_block : (u w : ℕ) → 1 ≤ w → u % w < w
+pub within_block : (u w : ℕ) → 1 ≤ w → u % w < w
 within_block u w le = mod_below u w (omega arith)
 
-next_in_block : (u w : ℕ) → 1 ≤ w → u % w ≢ w - 1 → (u + 1) % w ≡ u % w + 1
+pub next_in_block : (u w : ℕ) → 1 ≤ w → u % w ≢ w - 1 → (u + 1) % w ≡ u % w + 1
 next_in_block u w le ne =
     let below : u % w < w = within_block u w le in
     let split : u % w + u / w * w ≡ u = mod-add-div' u w in
@@ -28,7 +28,7 @@ next_in_block u w le ne =
     let m : (u / w * w + (u % w + 1)) % w ≡ u % w + 1 = mod-mul-add (u / w) w (u % w + 1) (omega (arith, below, ne, le)) in
     subst (λ n. n % w ≡ u % w + 1) e m
 
-next_block : (u w : ℕ) → 1 ≤ w → u % w ≡ w - 1 → (u + 1) % w ≡ 0
+pub next_block : (u w : ℕ) → 1 ≤ w → u % w ≡ w - 1 → (u + 1) % w ≡ 0
 next_block u w le same =
     let split : u % w + u / w * w ≡ u = mod-add-div' u w in
     let q : (u / w + 1) * w ≡ u / w * w + w = omega arith in
