@@ -6,11 +6,11 @@ use Rattle.coco_model.specs.Netlist.{Valuation}
 use Rattle.coco_model.specs.Labels.{Choice}
 use Rattle.coco_model.specs.Run.{Memory, AreRuns}
 use Rattle.coco_model.specs.Known.{Row, IsKnown}
-use Rattle.coco_model.specs.Reach.{Reach, IsReach, IsWideReach}
+use Rattle.coco_model.specs.Reach.{Reach, IsReach}
 use Rattle.coco_model.specs.Roots.{Root, IsRooted}
 
--- a run of every choice, what is known, roots, what a probe reaches and the coarser reach exist, so that what is said
--- of every run and every reach says something
+-- a run of every choice, what is known, roots and what a probe reaches exist, so that what is said of every run and
+-- every reach says something
 pub record HasMeaning (flat : Flat) (setup : Setup) (cycles : ℕ) : Type 0 where
   pub run : Choice → ℕ → Valuation
   pub memory : Choice → ℕ → Memory
@@ -19,9 +19,7 @@ pub record HasMeaning (flat : Flat) (setup : Setup) (cycles : ℕ) : Type 0 wher
   pub root : ℕ → ℕ → Root
   pub rooted : ℕ → ℕ → ℕ → Root
   pub reach : Reach
-  pub wide : Reach
   pub runs : AreRuns flat setup cycles run memory
   pub known : IsKnown flat setup cycles row word
   pub roots : IsRooted flat setup cycles row root rooted
   pub reaches : IsReach flat setup cycles reach
-  pub connects : IsWideReach flat setup cycles wide

@@ -1,5 +1,5 @@
 -- The netlist, and the valuations that agree with its cells.
-use Rattle.std.specs.Prelude.{◌≡◌, ◌≢◌, ℕ, ◌<◌, Bool, false, cond, List, [], ◌∷◌, ◌++◌, map, flat_map, Any, Contains, Option, Some, ◌⊎◌}
+use Rattle.std.specs.Prelude.{◌≡◌, ℕ, ◌<◌, Bool, false, cond, List, [], ◌∷◌, ◌++◌, map, flat_map, Any, Contains, Some}
 use Rattle.coco_base.specs.declared.netlist.Flat.{Flat}
 use Rattle.coco_base.specs.declared.netlist.FlatCell.{FlatCell}
 use Rattle.coco_base.specs.declared.netlist.FlatFlop.{FlatFlop}
@@ -53,11 +53,6 @@ pub record IsUndriven (flat : Flat) (b : ℕ) : Type 0 where
   pub no_input : IsInputBit flat b → ⊥
   pub no_flop : IsFlopBit flat b → ⊥
   pub no_cell : IsCellBit flat b → ⊥
-
--- a leaf: a flop's output, or an input port bit other than the clock
-pub record IsLeaf (flat : Flat) (clock : Option ℕ) (b : ℕ) : Type 0 where
-  pub driven : IsFlopBit flat b ⊎ IsInputBit flat b
-  pub no_clock : clock ≢ Some b
 
 -- each cell's output is its function of its inputs, and a bit that nothing drives is 0
 pub record IsSettled (flat : Flat) (v : Valuation) : Type 0 where

@@ -1,5 +1,5 @@
--- The leaves that a probe reaches: through all gates, or through live inputs alone.
-use Rattle.std.specs.Prelude.{◌≡◌, ℕ, ◌<◌, false, List, get_or, Contains, ◌↔◌, Option}
+-- The leaves that a probe reaches through live inputs.
+use Rattle.std.specs.Prelude.{◌≡◌, ℕ, ◌<◌, false, List, get_or, Contains, ◌↔◌}
 use Rattle.std.specs.List.Sorted.{IsStrictlyIncreasing}
 use Rattle.coco_base.specs.declared.netlist.Flat.{Flat}
 use Rattle.coco_base.specs.declared.netlist.FlatCell.{FlatCell}
@@ -7,7 +7,7 @@ use Rattle.coco_base.specs.declared.netlist.Wire.TheVariants.{Const, Bit}
 use Rattle.coco_base.specs.declared.cell.Part.TheVariants.{Vary}
 use Rattle.coco_base.specs.declared.setup.Setup.{Setup}
 use Rattle.coco_model.specs.Cells.{IsLiveInput}
-use Rattle.coco_model.specs.Netlist.{wires_of, IsCellBit, IsLeaf}
+use Rattle.coco_model.specs.Netlist.{wires_of, IsCellBit}
 use Rattle.coco_model.specs.Run.{before}
 use Rattle.coco_model.specs.Known.{Row, cell_parts, IsKnown}
 use Rattle.coco_model.specs.Calm.{IsCalm}
@@ -43,21 +43,3 @@ pub record IsReach (flat : Flat) (setup : Setup) (cycles : ℕ) (reach : Reach) 
   pub known : IsKnown flat setup cycles row word
   pub still : (t : ℕ) → t < cycles → IsCalm flat (row (before t)) (row t) (calm t)
   pub reached : (t : ℕ) → t < cycles → IsReachedRow flat (calm t) (reach t)
-
--- a walk against the wires, through any inputs, from a bit to a leaf
-pub data Connects (flat : Flat) (clock : Option ℕ) (leaf : ℕ) : ℕ → Type 0 where
-  here : IsLeaf flat clock leaf → Connects flat clock leaf leaf
-  through : (bit : ℕ) (cell : FlatCell) (from : ℕ) → Contains flat.cells cell → cell.output ≡ bit
-      → Contains (wires_of cell) (Bit from)
-      → Connects flat clock leaf from → Connects flat clock leaf bit
-
--- the leaves that a bit reaches by structure alone, in ascending order
-pub record AreConnected (flat : Flat) (clock : Option ℕ) (b : ℕ) (leaves : List ℕ) : Type 0 where
-  pub ascending : IsStrictlyIncreasing leaves
-  pub connected : (leaf : ℕ) → Contains leaves leaf ↔ Connects flat clock leaf b
-
--- the coarser reach by structure alone: a leaf reaches itself, and a cell's output all that its inputs reach; nothing
--- blocks a path
-abbrev pub IsWideReach : Flat → Setup → ℕ → Reach → Type 0
-IsWideReach flat setup cycles reach =
-    (t b : ℕ) → t < cycles → b < flat.bits → AreConnected flat setup.clock b (reach t b)

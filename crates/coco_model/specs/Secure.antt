@@ -7,7 +7,7 @@ use Rattle.coco_base.specs.declared.finding.Probe.{Probe}
 use Rattle.coco_model.specs.Netlist.{Valuation}
 use Rattle.coco_model.specs.Labels.{Choice, choices_with, secret_bit_count, same_bits}
 use Rattle.coco_model.specs.Run.{Memory, AreRuns, before}
-use Rattle.coco_model.specs.Reach.{Reach, IsReach, IsWideReach}
+use Rattle.coco_model.specs.Reach.{Reach, IsReach}
 
 -- a probe of a run, given its bits and cycles: any bit but the clock, in one of the cycles
 pub record IsProbe (bits : ℕ) (clock : Option ℕ) (cycles : ℕ) (probe : Probe) : Type 0 where
@@ -60,8 +60,3 @@ IsSecureFor flat setup cycles window reach d =
 unfoldable pub IsSecure : Flat → Setup → ℕ → ℕ → ℕ → Type 0
 IsSecure flat setup cycles window d =
     (reach : Reach) → IsReach flat setup cycles reach → IsSecureFor flat setup cycles window reach d
-
--- the same of probes of one cycle, where nothing blocks what a probe reaches: probes see more, so it is stronger
-unfoldable pub IsWidelySecure : Flat → Setup → ℕ → ℕ → Type 0
-IsWidelySecure flat setup cycles d =
-    (reach : Reach) → IsWideReach flat setup cycles reach → IsSecureFor flat setup cycles 1 reach d

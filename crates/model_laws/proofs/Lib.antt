@@ -9,10 +9,8 @@ pub mod Unique
 pub mod Rooted
 pub mod Ascending
 pub mod Reached
-pub mod Narrow
 pub mod Ends
 pub mod Lives
-pub mod Connected
 pub mod Apart
 pub mod Solved
 pub mod Sources

@@ -21,7 +21,6 @@ use Rattle.model_laws.proofs.Calms.{vary_or_not}
 use Rattle.model_laws.proofs.Unique.{steady_or_not, wire_root-cong}
 use Rattle.model_laws.proofs.Lists.{all_or_not}
 use Rattle.model_laws.proofs.Lives.{forced_exists, HasReached, reached_exists}
-use Rattle.model_laws.proofs.Connected.{HasWideReach, wide_reach_exists}
 use Rattle.model_laws.proofs.Solved.{ReadsWires, HasStates, states_exist}
 use Rattle.model_laws.proofs.Exists.{old_of, HasCarried, carried_exists}
 use Rattle.model_laws.specs.Laws.{MeaningLaw}
@@ -159,7 +158,6 @@ meaning_law flat setup cycles rank ranked bound driven range = record {
   root = rooted.state;
   rooted = rooted.word;
   reach = λ t. (reached t).reached;
-  wide = wide.reach;
   runs = record {
     each = λ choice. record {
       settled = λ t below. record { cells = (runs choice).cells t; undriven = (((runs choice).carried cycles).given t below).undriven };
@@ -176,7 +174,6 @@ meaning_law flat setup cycles rank ranked bound driven range = record {
     still = λ t below. (calm t).still;
     reached = λ t below. (reached t).row;
   };
-  connects = wide.connects;
 }
   where
     runs : (choice : Choice) → HasCarried (values choice) flat setup (λ t old c v. cell_value v c) (λ t v. v)
@@ -197,6 +194,3 @@ meaning_law flat setup cycles rank ranked bound driven range = record {
 
     reached : (t : ℕ) → HasReached flat (calm t).calm
     reached t = reached_exists flat rank (calm t).calm ranked range
-
-    wide : HasWideReach flat setup cycles
-    wide = wide_reach_exists flat setup cycles rank ranked range

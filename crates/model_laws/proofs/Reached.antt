@@ -14,7 +14,7 @@ use Rattle.model_laws.proofs.Forced.{one_forced_row}
 use Rattle.model_laws.proofs.Unique.{one_known_law}
 use Rattle.coco_model.proofs.Keepers.{before_below}
 use Rattle.model_laws.proofs.Ascending.{same_ascending}
-use Rattle.model_laws.specs.Laws.{OneKnownLaw, OneReachLaw, OneWideReachLaw}
+use Rattle.model_laws.specs.Laws.{OneKnownLaw, OneReachLaw}
 
 one_known : (flat : Flat) (setup : Setup) (cycles : ℕ) (rank : ℕ → ℕ) → IsRanked flat rank → IsBound flat setup
     → (reach other : Reach) → (r : IsReach flat setup cycles reach) (s : IsReach flat setup cycles other) → (t : ℕ) → t < cycles → (b : ℕ)
@@ -51,10 +51,3 @@ one_reach_law flat setup cycles rank ranked bound reach other r s t b below insi
 
     two : IsStrictlyIncreasing (other t b) × ((l : ℕ) → Contains (other t b) l ↔ Reaches flat (s.calm t) l b)
     two = s.reached t below b inside
-
-pub one_wide_reach_law : OneWideReachLaw
-unfolding OneWideReachLaw
-one_wide_reach_law flat setup cycles reach other r s t b below inside =
-    same_ascending (reach t b) (other t b) (r t b below inside).ascending (s t b below inside).ascending
-    (λ l h. ((s t b below inside).connected l).1 (((r t b below inside).connected l).0 h))
-    (λ l h. ((r t b below inside).connected l).1 (((s t b below inside).connected l).0 h))

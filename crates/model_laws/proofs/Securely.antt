@@ -9,11 +9,11 @@ use Rattle.coco_model.specs.Netlist.{Valuation}
 use Rattle.coco_model.specs.Labels.{Choice, choices_with, same_bits}
 use Rattle.coco_model.specs.Run.{before}
 use Rattle.coco_model.specs.Reach.{Reach}
-use Rattle.coco_model.specs.Secure.{IsProbe, moments, observation, count_showing, IsSecureFor, IsSecure, IsWidelySecure}
+use Rattle.coco_model.specs.Secure.{IsProbe, moments, observation, count_showing, IsSecureFor, IsSecure}
 use Rattle.coco_model.proofs.Basics.{Contains-here, Contains-later}
 use Rattle.model_laws.proofs.Windows.{moments-probes}
-use Rattle.model_laws.proofs.Reached.{one_reach_law, one_wide_reach_law}
-use Rattle.model_laws.specs.Laws.{OneReachLaw, OneWideReachLaw, SecureLaw, WidelySecureLaw}
+use Rattle.model_laws.proofs.Reached.{one_reach_law}
+use Rattle.model_laws.specs.Laws.{OneReachLaw, SecureLaw}
 
 -- what a probe shows of the leaves that it reaches
 abbrev pub shown : (ℕ → Valuation) → ℕ → List ℕ → List Bool
@@ -57,8 +57,3 @@ pub secure_law : SecureLaw
 unfolding SecureLaw IsSecure OneReachLaw
 secure_law flat setup cycles rank ranked bound reach is_reach window d secure other is_other =
     secure-same flat setup cycles reach other (one_reach_law flat setup cycles rank ranked bound reach other is_reach is_other) window d secure
-
-pub widely_secure_law : WidelySecureLaw
-unfolding WidelySecureLaw IsWidelySecure OneWideReachLaw
-widely_secure_law flat setup cycles reach is_reach d secure other is_other =
-    secure-same flat setup cycles reach other (one_wide_reach_law flat setup cycles reach other is_reach is_other) 1 d secure

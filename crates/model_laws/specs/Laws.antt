@@ -14,8 +14,8 @@ use Rattle.coco_model.specs.Run.{Memory, IsRun, before}
 use Rattle.coco_model.specs.Known.{Row, ones, IsForcedRow, IsKnown}
 use Rattle.coco_model.specs.Controls.{AreControlsKnown, HasControls}
 use Rattle.coco_model.specs.Calm.{IsCalm}
-use Rattle.coco_model.specs.Reach.{Reach, Reaches, IsReach, IsWideReach}
-use Rattle.coco_model.specs.Secure.{IsSecureFor, IsSecure, IsWidelySecure}
+use Rattle.coco_model.specs.Reach.{Reach, Reaches, IsReach}
+use Rattle.coco_model.specs.Secure.{IsSecureFor, IsSecure}
 use Rattle.coco_model.specs.Meaning.{HasMeaning}
 use Rattle.coco_model.specs.Events.{Event, waveform, after_events, IsCellOrder}
 use Rattle.coco_model.specs.Events.Event.{leaf, cell}
@@ -177,20 +177,6 @@ OneReachLaw =
     → (reach other : Reach) → IsReach flat setup cycles reach → IsReach flat setup cycles other
     → (t b : ℕ) → t < cycles → b < flat.bits → reach t b ≡ other t b
 
--- the coarser reach is one
-unfoldable pub OneWideReachLaw : Type 0
-OneWideReachLaw =
-    (flat : Flat) (setup : Setup) (cycles : ℕ) (reach other : Reach) → IsWideReach flat setup cycles reach
-    → IsWideReach flat setup cycles other
-    → (t b : ℕ) → t < cycles → b < flat.bits → reach t b ≡ other t b
-
--- a leaf that a probe reaches where calm bits block, it reaches by structure
-unfoldable pub NarrowReachLaw : Type 0
-NarrowReachLaw =
-    (flat : Flat) (setup : Setup) (cycles : ℕ) (reach wide : Reach) → IsReach flat setup cycles reach
-    → IsWideReach flat setup cycles wide
-    → (t b : ℕ) → t < cycles → b < flat.bits → (leaf : ℕ) → Contains (reach t b) leaf → Contains (wide t b) leaf
-
 -- a netlist and a setup have a meaning, so that what is said of every run and reach says something
 unfoldable pub MeaningLaw : Type 0
 MeaningLaw =
@@ -279,9 +265,3 @@ SecureLaw =
     (flat : Flat) (setup : Setup) (cycles : ℕ) (rank : ℕ → ℕ) → IsRanked flat rank → IsBound flat setup
     → (reach : Reach) → IsReach flat setup cycles reach → (window d : ℕ) → IsSecureFor flat setup cycles window reach d
     → IsSecure flat setup cycles window d
-
--- the same for the coarser reach
-unfoldable pub WidelySecureLaw : Type 0
-WidelySecureLaw =
-    (flat : Flat) (setup : Setup) (cycles : ℕ) (reach : Reach) → IsWideReach flat setup cycles reach
-    → (d : ℕ) → IsSecureFor flat setup cycles 1 reach d → IsWidelySecure flat setup cycles d

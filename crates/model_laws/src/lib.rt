@@ -4,7 +4,7 @@
 
 ghost use Rattle.model_laws.specs.NodeLaws.{UnrolledRunLaw, MattersLaw};
 ghost use Rattle.model_laws.specs.RunLaws.{GoodCycleLaw, OneOutcomeLaw, FewerCyclesLaw, RankOrderLaw, OneCycleLaw, CoveredWindowLaw};
-ghost use Rattle.model_laws.specs.Laws.{OneSettledLaw, SomeSettledLaw, OneForcedLaw, KnownLaw, RequestsLaw, WordLeafLaw, CalmLaw, WaveformLaw, RootLaw, OneRunLaw, OneKnownLaw, OneRootedLaw, OneReachLaw, OneWideReachLaw, NarrowReachLaw, SecureLaw, WidelySecureLaw, MeaningLaw, EndLaw, UnrolledLaw, NodesLaw, NodeSetsLaw, RootSetsLaw, ConesLaw};
+ghost use Rattle.model_laws.specs.Laws.{OneSettledLaw, SomeSettledLaw, OneForcedLaw, KnownLaw, RequestsLaw, WordLeafLaw, CalmLaw, WaveformLaw, RootLaw, OneRunLaw, OneKnownLaw, OneRootedLaw, OneReachLaw, SecureLaw, MeaningLaw, EndLaw, UnrolledLaw, NodesLaw, NodeSetsLaw, RootSetsLaw, ConesLaw};
 
 /// Two settled valuations that agree on the bits that no cell drives are one, where no cells make a loop.
 pub fn one_settled_law()
@@ -74,24 +74,9 @@ pub fn one_reach_law()
     ensures { OneReachLaw }
 {}
 
-/// The coarser reach by structure alone is one.
-pub fn one_wide_reach_law()
-    ensures { OneWideReachLaw }
-{}
-
-/// A leaf that a probe reaches where calm bits block, it reaches by structure.
-pub fn narrow_reach_law()
-    ensures { NarrowReachLaw }
-{}
-
 /// A run that is secure for its one calm-blocked reach is secure.
 pub fn secure_law()
     ensures { SecureLaw }
-{}
-
-/// A run that is secure for its one coarser reach is secure for every such reach.
-pub fn widely_secure_law()
-    ensures { WidelySecureLaw }
 {}
 
 /// A netlist without loops, with one driver for each bit and with numbers in range, and a setup that binds its

@@ -17,7 +17,6 @@ pub mod RunCounting
 pub mod NoFinding
 pub mod Determined
 pub mod InTime
-pub mod Narrow
 pub mod RootCones
 pub mod OneFinding
 pub mod Cover

@@ -12,7 +12,7 @@ use Rattle.coco_model.specs.Known.{Row, IsKnown}
 use Rattle.coco_model.specs.Controls.{AreControlsKnown}
 use Rattle.coco_model.specs.Reach.{Reach, IsReach}
 use Rattle.coco_model.specs.Roots.{Root, IsRooted}
-use Rattle.coco_model.specs.Secure.{IsProbe, IsSecure, IsWidelySecure, count_showing}
+use Rattle.coco_model.specs.Secure.{IsProbe, IsSecure, count_showing}
 use Rattle.coco_model.specs.SecureInTime.{IsSecureInTime}
 use Rattle.coco_model.specs.Findings.{Labels, IsSelection, IsWhole, IsSeen, set_of_pairs, HasFinding}
 use Rattle.model_laws.specs.Laws.{CheckedRun}
@@ -102,9 +102,3 @@ unfoldable pub InTimeLaw : Type 0
 InTimeLaw =
     (flat : Flat) (setup : Setup) (cycles : ℕ) → CheckedRun flat setup cycles → HasOneDriver flat → IsInRange flat
     → (window d : ℕ) → IsSecure flat setup cycles window d → IsSecureInTime flat setup cycles window d
-
--- a run that is secure for the coarser reach is secure: where calm bits block, probes see no more
-unfoldable pub NarrowLaw : Type 0
-NarrowLaw =
-    (flat : Flat) (setup : Setup) (cycles : ℕ) (rank : ℕ → ℕ) → IsRanked flat rank → IsInRange flat
-    → (d : ℕ) → IsWidelySecure flat setup cycles d → IsSecure flat setup cycles 1 d

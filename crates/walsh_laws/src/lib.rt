@@ -3,7 +3,7 @@
 #![tactic(auto)]
 
 ghost use Rattle.walsh_laws.specs.Laws.{CorrelationLaw, CountingLaw};
-ghost use Rattle.walsh_laws.specs.Security.{RunCorrelationLaw, RunCountingLaw, NoFindingLaw, InTimeLaw, NarrowLaw};
+ghost use Rattle.walsh_laws.specs.Security.{RunCorrelationLaw, RunCountingLaw, NoFindingLaw, InTimeLaw};
 ghost use Rattle.walsh_laws.specs.Covered.{OneFindingLaw, SelectionConeLaw, CoverLaw};
 ghost use Rattle.walsh_laws.specs.Written.{WritingLaw, ReadingLaw};
 ghost use Rattle.walsh_laws.specs.Unrolled.{SomeTryLaw, TryFindsLaw, LeastChoiceLaw, NeededTryLaw};
@@ -42,12 +42,6 @@ pub fn no_finding_law()
 /// A run that is secure of an order is so under every order of gate events.
 pub fn in_time_law()
     ensures { InTimeLaw }
-{}
-
-/// A run that is secure of an order for the coarser reach by structure alone is secure of this order where calm bits
-/// block what probes reach.
-pub fn narrow_law()
-    ensures { NarrowLaw }
 {}
 
 /// Where a finding of an order exists, a written one does: with probes and pairs in ascending order, and a number for
