@@ -2,3 +2,4 @@ pub mod Choices
 pub mod Selectors
 pub mod Sums
 pub mod Laws
+pub mod Chosen

@@ -12,7 +12,7 @@ use Rattle.clause_builds.specs.Rows.{signal_at}
 use Rattle.node_clauses.specs.Choices.{four_places, set_numbers, has_place}
 use Rattle.node_clauses.specs.Selectors.{known_or_fresh, known_place, add_place, add_places, differs_at, differs, differs_unless, others_differ, selectors, no_places}
 use Rattle.node_clauses.proofs.ChoiceLemmas.{set_at}
-use Rattle.node_laws.specs.Readings.{chosen_number}
+use Rattle.node_clauses.specs.Chosen.{chosen_number}
 use Rattle.node_laws.proofs.Meant.{Means, means-done, means-bind, means-demanded, through_means, through_each}
 use Rattle.node_laws.proofs.Numbers.{place_chosen, chosen-below}
 

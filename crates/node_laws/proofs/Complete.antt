@@ -17,7 +17,7 @@ use Rattle.walsh_laws.specs.Unrolled.{LeastChoiceLaw}
 use Rattle.node_clauses.specs.Choices.{choices}
 use Rattle.node_clauses.specs.Selectors.{no_places}
 use Rattle.node_clauses.specs.Sums.{NodeRun, NodeSums, add_this, add_node, add_nodes, no_sums, node_sums}
-use Rattle.node_laws.specs.Readings.{chosen_number, chosen_numbers}
+use Rattle.node_clauses.specs.Chosen.{chosen_number, chosen_numbers}
 use Rattle.node_laws.specs.Laws.{IsWeighed, AreNeededNumbers, CompleteLaw, ReadsLaw}
 use Rattle.node_laws.proofs.Numbers.{least_first}
 use Rattle.node_laws.proofs.Extending.{Extends, extends-done, extends-bind, RowBelow}

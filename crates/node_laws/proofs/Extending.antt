@@ -44,7 +44,7 @@ step_same values others var (xor_and_gate a p b) h e holds =
     ∙ (let ea = value_below values others var a h.0 low in let ep = value_below values others var p h.1 low in let eb = value_below values others var b h.2 low in rw (ea, ep, eb) refl)
 step_same values others var (demand signals) h e holds = let f = true_same values others var signals h e in cc
 
-steps_same : (values others : ℕ → Bool) (var : ℕ) (steps : List Step) → AllReadBelow var steps → AreSame values others (variables_after var steps)
+pub steps_same : (values others : ℕ → Bool) (var : ℕ) (steps : List Step) → AllReadBelow var steps → AreSame values others (variables_after var steps)
     → AllHold values var steps → AllHold others var steps
 steps_same values others var [] h e holds = tt
 steps_same values others var (step ∷ steps) h e holds =

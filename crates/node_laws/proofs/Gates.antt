@@ -25,7 +25,7 @@ use Rattle.node_clauses.specs.Choices.{has_place, is_choice, choices, set_number
 use Rattle.node_clauses.specs.Selectors.{selectors}
 use Rattle.node_clauses.specs.Sums.{NodeRun, NodeSums, add_operand, add_operand_at, add_operands, add_choice, add_gate, add_this, set_least, least_choice}
 use Rattle.node_clauses.proofs.ChoiceLemmas.{length-subset, place_of_number}
-use Rattle.node_laws.specs.Readings.{chosen_number}
+use Rattle.node_clauses.specs.Chosen.{chosen_number}
 use Rattle.node_laws.proofs.Meant.{Means, means-done, means-bind, means_more, through_places, value_at, Adds, means-xor_into}
 use Rattle.node_laws.proofs.Numbers.{place_chosen, no_place, choice_allowed, choice_small, among_filtered, chosen_input, chosen-least, least_first}
 use Rattle.node_laws.proofs.Choosing.{Picks, means-selectors}

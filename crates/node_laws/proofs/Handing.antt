@@ -21,7 +21,7 @@ use Rattle.clause_builds.specs.Builds.{done}
 use Rattle.clause_builds.specs.Rows.{signal_at, xor_into}
 use Rattle.node_clauses.specs.Selectors.{no_places}
 use Rattle.node_clauses.specs.Sums.{NodeRun, NodeSums, AreSized, place_of, add_at, add_this}
-use Rattle.node_laws.specs.Readings.{chosen_number}
+use Rattle.node_clauses.specs.Chosen.{chosen_number}
 use Rattle.node_laws.proofs.Meant.{Means, means-done, means-bind, value_at, Adds, means-xor_into}
 use Rattle.node_laws.proofs.Parities.{sum_to, sum-adds, xor_false, xor_assoc, xor_last, and_false, and_true}
 

@@ -12,7 +12,7 @@ use Rattle.clause_builds.specs.Rows.{signal_at, xor_into}
 use Rattle.node_clauses.specs.Choices.{four_places, has_place}
 use Rattle.node_clauses.specs.Selectors.{no_places}
 use Rattle.node_clauses.specs.Sums.{NodeRun, NodeSums, AreSized, place_of, add_at, add_this}
-use Rattle.node_laws.specs.Readings.{chosen_number}
+use Rattle.node_clauses.specs.Chosen.{chosen_number}
 use Rattle.node_laws.proofs.Numbers.{place_chosen, chosen-below, number_told}
 use Rattle.node_laws.proofs.Extending.{Extends, AreSame, extends-done, extends-bind, extends-xor_into, Row, RowBelow, row_more}
 use Rattle.node_laws.proofs.Selecting.{Told}

@@ -22,7 +22,7 @@ use Rattle.circuit_clauses.specs.declared.signal.Signal.{Signal}
 use Rattle.circuit_clauses.specs.Signals.{value}
 use Rattle.node_clauses.specs.Choices.{four_places, has_place, varies, is_choice, choices, set_numbers}
 use Rattle.node_clauses.proofs.ChoiceLemmas.{place_of_number, varying_subset}
-use Rattle.node_laws.specs.Readings.{chosen_number}
+use Rattle.node_clauses.specs.Chosen.{chosen_number}
 use Rattle.node_laws.proofs.Meant.{value_at}
 
 -- ---- the places of a number

@@ -16,7 +16,7 @@ use Rattle.circuit_clauses.specs.Laws.{GatesLaw}
 use Rattle.walsh_laws.specs.Unrolled.{LeastChoiceLaw}
 use Rattle.node_clauses.specs.Selectors.{no_places}
 use Rattle.node_clauses.specs.Sums.{NodeRun, NodeSums, AreSized, add_this, add_node, add_nodes, no_sums, node_sums}
-use Rattle.node_laws.specs.Readings.{chosen_number, chosen_numbers}
+use Rattle.node_clauses.specs.Chosen.{chosen_number, chosen_numbers}
 use Rattle.node_laws.specs.Laws.{IsWeighed, AreNeededNumbers, TellsSums, ReadsAsNumbers, SoundLaw}
 use Rattle.node_laws.proofs.Meant.{Means, means-done, means-bind, means_more, value_at}
 use Rattle.node_laws.proofs.Parities.{sum_to, weighed-is, xor_false}

@@ -13,7 +13,8 @@ use Rattle.circuit_clauses.specs.Meanings.{AllHold, AllReadBelow, IsBelow}
 use Rattle.clause_builds.specs.Rows.{signal_at}
 use Rattle.label_cone.specs.Coned.{mark_at}
 use Rattle.node_clauses.specs.Sums.{NodeRun, NodeSums, IsNodeRun, node_sums}
-use Rattle.node_laws.specs.Readings.{chosen_numbers, AreWhole, AreOfLeaves, weighed_sum}
+use Rattle.node_clauses.specs.Chosen.{chosen_numbers}
+use Rattle.node_laws.specs.Readings.{AreWhole, AreOfLeaves, weighed_sum}
 
 -- what the laws ask of a run: its nodes are good, the marks tell which nodes matter, and at first no gate is weighed
 pub record IsWeighed (run : NodeRun) (weights : List Signal) : Type 0 where

@@ -1,5 +1,5 @@
--- What values of the variables say of the nodes of a run: the choice of each gate, and the sum of the weighed nodes.
-use Rattle.std.specs.Prelude.{◌≡◌, ℕ, ◌+◌, ◌*◌, Bool, false, cond, ◌&&◌, List, [], ◌∷◌, map, length, get_or}
+-- What the laws ask of the nodes of a run, and the sum of the weighed nodes that values of the variables tell.
+use Rattle.std.specs.Prelude.{◌≡◌, ℕ, Bool, false, ◌&&◌, List, map, length, get_or}
 use Rattle.std.specs.List.{range_with_len}
 use Rattle.coco_base.specs.declared.cell.Kind.{Kind}
 use Rattle.coco_base.specs.declared.cell.Part.{Part}
@@ -11,15 +11,6 @@ use Rattle.circuit_clauses.specs.declared.signal.Signal.{Signal}
 use Rattle.circuit_clauses.specs.declared.signal.Signal.TheVariants.{Constant}
 use Rattle.circuit_clauses.specs.Signals.{value}
 use Rattle.clause_builds.specs.Rows.{signal_at}
-
--- the number of a choice, by a signal for each of its places, place 0 first
-abbrev pub chosen_number : (ℕ → Bool) → List Signal → ℕ
-chosen_number values [] = 0
-chosen_number values (s ∷ selected) = cond (value values s) 1 0 + 2 * chosen_number values selected
-
--- the choice of each node
-abbrev pub chosen_numbers : (ℕ → Bool) → List (List Signal) → List ℕ
-chosen_numbers values selections = map (chosen_number values) selections
 
 -- each gate has four places, and an operand for each of them
 abbrev pub AreWhole : List Node → Type 0
