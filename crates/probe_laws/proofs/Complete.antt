@@ -233,6 +233,12 @@ module _ (law : EvaluationLaw) (gates : GatesLaw) (laws : CountLaws) (run : Prob
         ap (λ (row : List Signal). value_at values row b) (get_or_past rows t [] (let long = h.as_long in omega arith)) ∙ sym none
   ]
 
+  pairs_below : (now : ℕ) (values : ℕ → Bool) (rows : List (List Signal)) → PairRows now values rows → (t b : ℕ) → IsBelow now (at rows t b)
+  pairs_below now values rows h t b = elim (cases_lt t run.cycles) [
+    | inl lt ↦ (h.place t [] lt).below b
+    | inr ge ↦ subst (λ (row : List Signal). IsBelow now (signal_at row b)) (sym (get_or_past rows t [] (let long = h.as_long in omega arith))) tt
+  ]
+
   chosen_probes : (now : ℕ) (values : ℕ → Bool) (cycles : List Counted) → Telling now values cycles → (t b : ℕ) → chosen values (rows_of cycles) t b ≡ choice t b
   chosen_probes now values cycles h t b = elim (cases_lt t run.cycles) [
     | inl lt ↦ ap (λ (row : List Signal). value_at values row b) (row_at-rows cycles t (let long = h.as_long in omega arith)) ∙ (h.row t lt).is b
@@ -243,9 +249,9 @@ module _ (law : EvaluationLaw) (gates : GatesLaw) (laws : CountLaws) (run : Prob
   ]
 
   pub part_extends : (before : ℕ → Bool) (var : ℕ) → Extends before var (probe_part run)
-      (λ now values part. ((t b : ℕ) → chosen values part.probes t b ≡ choice t b) × ((t b : ℕ) → chosen values part.pairs t b ≡ pairs_of t b))
+      (λ now values part. ((t b : ℕ) → chosen values part.probes t b ≡ choice t b) × ((t b : ℕ) → chosen values part.pairs t b ≡ pairs_of t b) × ((t b : ℕ) → IsBelow now (at part.pairs t b)))
   part_extends before var =
-      extends-bind before var (λ now values part. ((t b : ℕ) → chosen values part.probes t b ≡ choice t b) × ((t b : ℕ) → chosen values part.pairs t b ≡ pairs_of t b))
+      extends-bind before var (λ now values part. ((t b : ℕ) → chosen values part.probes t b ≡ choice t b) × ((t b : ℕ) → chosen values part.pairs t b ≡ pairs_of t b) × ((t b : ℕ) → IsBelow now (at part.pairs t b)))
       (GroupsAre run choice) (group_bits run)
       (λ (all : Grouped).
       probes run >>= (λ (cycles : List Counted).
@@ -254,7 +260,7 @@ module _ (law : EvaluationLaw) (gates : GatesLaw) (laws : CountLaws) (run : Prob
       done (part_of cycles rows)))))
       (group_bits_extend law gates laws run good orderly choice pairs_of is before var)
       (λ (all : Grouped) n1 v1 up1 same1 gs1.
-      extends-bind v1 n1 (λ now values part. ((t b : ℕ) → chosen values part.probes t b ≡ choice t b) × ((t b : ℕ) → chosen values part.pairs t b ≡ pairs_of t b))
+      extends-bind v1 n1 (λ now values part. ((t b : ℕ) → chosen values part.probes t b ≡ choice t b) × ((t b : ℕ) → chosen values part.pairs t b ≡ pairs_of t b) × ((t b : ℕ) → IsBelow now (at part.pairs t b)))
       Telling (probes run)
       (λ (cycles : List Counted).
       shown_of run all cycles >>= (λ (shown : Shown).
@@ -262,17 +268,17 @@ module _ (law : EvaluationLaw) (gates : GatesLaw) (laws : CountLaws) (run : Prob
       done (part_of cycles rows))))
       (probes_extend law gates laws run good orderly choice pairs_of is v1 n1)
       (λ (cycles : List Counted) n2 v2 up2 same2 tell2.
-      extends-bind v2 n2 (λ now values part. ((t b : ℕ) → chosen values part.probes t b ≡ choice t b) × ((t b : ℕ) → chosen values part.pairs t b ≡ pairs_of t b))
+      extends-bind v2 n2 (λ now values part. ((t b : ℕ) → chosen values part.probes t b ≡ choice t b) × ((t b : ℕ) → chosen values part.pairs t b ≡ pairs_of t b) × ((t b : ℕ) → IsBelow now (at part.pairs t b)))
       (ShownTell cycles) (shown_of run all cycles)
       (λ (shown : Shown). pairs run shown >>= (λ (rows : List (List Signal)). done (part_of cycles rows)))
       (shown_extends all cycles v2 n2 (groups_stable run choice n1 n2 v1 v2 all up2 same2 gs1) tell2)
       (λ (shown : Shown) n3 v3 up3 same3 h3.
-      extends-bind v3 n3 (λ now values part. ((t b : ℕ) → chosen values part.probes t b ≡ choice t b) × ((t b : ℕ) → chosen values part.pairs t b ≡ pairs_of t b))
+      extends-bind v3 n3 (λ now values part. ((t b : ℕ) → chosen values part.probes t b ≡ choice t b) × ((t b : ℕ) → chosen values part.pairs t b ≡ pairs_of t b) × ((t b : ℕ) → IsBelow now (at part.pairs t b)))
       PairRows (pairs run shown) (λ (rows : List (List Signal)). done (part_of cycles rows))
       (pairs_extend shown v3 n3 h3.0)
       (λ (rows : List (List Signal)) n4 v4 up4 same4 h4.
-      extends-done v4 n4 (λ now values part. ((t b : ℕ) → chosen values part.probes t b ≡ choice t b) × ((t b : ℕ) → chosen values part.pairs t b ≡ pairs_of t b))
-      (part_of cycles rows) (chosen_probes n4 v4 cycles (on cycles n3 n4 v3 v4 up4 same4 h3.1), chosen_pairs n4 v4 rows h4)))))
+      extends-done v4 n4 (λ now values part. ((t b : ℕ) → chosen values part.probes t b ≡ choice t b) × ((t b : ℕ) → chosen values part.pairs t b ≡ pairs_of t b) × ((t b : ℕ) → IsBelow now (at part.pairs t b)))
+      (part_of cycles rows) (chosen_probes n4 v4 cycles (on cycles n3 n4 v3 v4 up4 same4 h3.1), chosen_pairs n4 v4 rows h4, pairs_below n4 v4 rows h4)))))
 
 pub complete : EvaluationLaw → GatesLaw → CountLaws → CompleteProbesLaw
 complete law gates laws before var run good orderly choice pairs_of is =
@@ -283,4 +289,6 @@ complete law gates laws before var run good orderly choice pairs_of is =
       meets = all.holds;
       probes_are = all.result.0;
       pairs_are = all.result.1;
+      reads = all.reads;
+      below = all.result.2;
     }

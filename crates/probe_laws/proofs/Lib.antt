@@ -19,3 +19,4 @@ pub mod Lasting
 pub mod Acting
 pub mod Complete
 pub mod Orders
+pub mod LowPart

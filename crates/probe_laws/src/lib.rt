@@ -1,7 +1,7 @@
 //! The laws of the clauses about probes, each a call without effect whose clause says it.
 #![tactic(auto)]
 
-ghost use Rattle.probe_laws.specs.Laws.{SoundProbesLaw, CompleteProbesLaw, OrderlyLaw};
+ghost use Rattle.probe_laws.specs.Laws.{SoundProbesLaw, CompleteProbesLaw, OrderlyLaw, ReadsProbesLaw};
 
 use circuit_clauses::{evaluation_law, gates_law};
 use tally_clauses::{limit_law, tally_law};
@@ -29,4 +29,9 @@ pub fn complete_probes_law()
 /// The cells of a graph that was built stand in order, as the law before this one asks.
 pub fn orderly_law()
     ensures { OrderlyLaw }
+{}
+
+/// The steps about probes read earlier variables alone.
+pub fn reads_probes_law()
+    ensures { ReadsProbesLaw }
 {}
