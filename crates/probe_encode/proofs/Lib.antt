@@ -6,3 +6,5 @@ pub mod Starts
 pub mod Pigeons
 pub mod GoalSizes
 pub mod FitLemmas
+pub mod Numbered
+pub mod Read

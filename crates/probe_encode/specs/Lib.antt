@@ -5,4 +5,6 @@ pub mod Shares
 pub mod Goals
 pub mod Formulas
 pub mod Sources
+pub mod Readings
+pub mod Readable
 pub mod Laws

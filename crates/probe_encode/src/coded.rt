@@ -33,6 +33,7 @@ pub struct Encoded {
 
 impl Model for Encoded {
     ghost use Rattle.probe_encode.specs.Formulas.{EncodedView, tables_by};
+    ghost use Rattle.probe_encode.specs.Readable.{AreReadable};
 
     ghost Value = { EncodedView };
 
@@ -40,6 +41,8 @@ impl Model for Encoded {
       formula = e.form;
       tables = tables_by e.labels.items e.parts.variables e.parts.part e.parts.sums;
     } };
+
+    ghost invariant = { λ e. AreReadable (tables_by e.labels.items e.parts.variables e.parts.part e.parts.sums) };
 }
 
 /// The variables of labels, what is chosen of probes and pairs, and the sums of nodes.

@@ -2,6 +2,7 @@
 #![tactic(auto)]
 
 pub mod coded;
+mod finding;
 mod goal;
 pub mod goal_list;
 mod labels;
