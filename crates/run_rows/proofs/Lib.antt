@@ -1,0 +1,2 @@
+mod CycleLemmas
+mod RunLemmas
