@@ -8,6 +8,8 @@ pub use fault::RunFault;
 pub use ready::{Ready, run_of};
 
 #[cfg(test)]
+mod calm_rows;
+#[cfg(test)]
 mod cone_rows;
 #[cfg(test)]
 mod known;
