@@ -5,7 +5,7 @@ pub mod answer;
 mod finding;
 mod labels;
 mod report;
-mod text;
+pub mod text;
 
 pub use answer::{Answer, Facts};
 pub use report::{is_in_range, text_of};

@@ -6,7 +6,7 @@ use coco_base::NoMemory;
 use std::alloc::Global;
 
 /// Adds bytes at the end of a text.
-pub(crate) fn add(text: &mut Vec<u8>, bytes: &[u8]) -> Result<(), NoMemory>
+pub fn add(text: &mut Vec<u8>, bytes: &[u8]) -> Result<(), NoMemory>
     ensures { OnOk result (text.new.items ≡ text.old.items ++ bytes.now) }
 {
     text.extend_from_slice(bytes)?;
@@ -14,7 +14,7 @@ pub(crate) fn add(text: &mut Vec<u8>, bytes: &[u8]) -> Result<(), NoMemory>
 }
 
 /// Adds a number in decimal digits.
-pub(crate) fn add_number(text: &mut Vec<u8>, alloc: Global, number: u128) -> Result<(), NoMemory>
+pub fn add_number(text: &mut Vec<u8>, alloc: Global, number: u128) -> Result<(), NoMemory>
     ensures { OnOk result (text.new.items ≡ text.old.items ++ decimal number) }
 {
     let digits = number.to_string(alloc)?;
@@ -22,7 +22,7 @@ pub(crate) fn add_number(text: &mut Vec<u8>, alloc: Global, number: u128) -> Res
 }
 
 /// Adds a line of a word and a number.
-pub(crate) fn add_count(
+pub fn add_count(
     text: &mut Vec<u8>,
     alloc: Global,
     word: &[u8],
@@ -50,7 +50,7 @@ fn shown(alloc: Global, name: &[u8]) -> Result<Vec<u8>, NoMemory>
 }
 
 /// Adds a name, each control character as a question mark.
-pub(crate) fn add_name(text: &mut Vec<u8>, alloc: Global, name: &[u8]) -> Result<(), NoMemory>
+pub fn add_name(text: &mut Vec<u8>, alloc: Global, name: &[u8]) -> Result<(), NoMemory>
     ensures { OnOk result (text.new.items ≡ text.old.items ++ printed name.now) }
 {
     let name = shown(alloc, name)?;
@@ -71,7 +71,7 @@ fn hex_digit(number: u32, weight: u32) -> u8
 }
 
 /// Adds a number as eight lower-case hexadecimal digits.
-pub(crate) fn add_hex(text: &mut Vec<u8>, number: u32) -> Result<(), NoMemory>
+pub fn add_hex(text: &mut Vec<u8>, number: u32) -> Result<(), NoMemory>
     ensures { OnOk result (text.new.items ≡ text.old.items ++ hex_text number) }
 {
     let digits = [
