@@ -1,0 +1,4 @@
+pub mod Sources
+pub mod Meanings
+pub mod Refuted
+pub mod Answers

@@ -1,0 +1,4 @@
+pub mod Written
+pub mod Verdicts
+pub mod Stops
+pub mod Laws
