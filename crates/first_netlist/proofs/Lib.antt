@@ -1,4 +1,0 @@
-pub mod Json
-pub mod Members
-pub mod Places
-pub mod Flats

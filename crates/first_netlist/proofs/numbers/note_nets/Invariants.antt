@@ -1,7 +1,0 @@
--- the numbers of the nets so far are noted
-use Rattle.std.proofs.Common.{◌≡◌, ◌++◌, take, flat_map}
-use Rattle.first_netlist.specs.Netlist.{net_numbers}
-use Rattle.first_netlist.proofs.numbers.note_nets.Given as goal
-
-abbrev pub invariant-nets : goal.invariant-nets
-invariant-nets l = l.all.items ≡ l.initial.all.items ++ flat_map net_numbers (take l.net-index l.nets)

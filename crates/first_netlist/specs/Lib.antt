@@ -1,4 +1,0 @@
-pub mod Json
-pub mod Module
-pub mod Netlist
-pub mod Wires

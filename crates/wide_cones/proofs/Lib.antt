@@ -1,9 +1,0 @@
-pub mod SpreadLemmas
-pub mod GateLemmas
-pub mod LeafLemmas
-pub mod ConeLemmas
-pub mod Ranges
-pub mod SecretLemmas
-pub mod CycleLemmas
-pub mod LeakLemmas
-pub mod ReachLemmas

@@ -1,7 +1,0 @@
-use Rattle.std.proofs.Common.{◌≡◌, ◌++◌, map}
-use Rattle.std.specs.List.{range_with_len}
-use Rattle.coco_model.specs.Labels.{share_labels}
-use Rattle.wide_cones.proofs.secrets.add_bits.Given as goal
-
-abbrev pub invariant-bits : goal.invariant-bits
-invariant-bits l = l.sets ≡ l.initial.sets ++ map (share_labels l.secret) (range_with_len 0 l.bit)

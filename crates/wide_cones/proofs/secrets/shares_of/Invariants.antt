@@ -1,7 +1,0 @@
-use Rattle.std.proofs.Common.{◌≡◌, map}
-use Rattle.std.specs.List.{range_with_len}
-use Rattle.coco_model.specs.Labels.{share_label}
-use Rattle.wide_cones.proofs.secrets.shares_of.Given as goal
-
-abbrev pub invariant-shares : goal.invariant-shares
-invariant-shares l = l.labels ≡ map (λ i. share_label l.secret i l.bit) (range_with_len 0 l.share)

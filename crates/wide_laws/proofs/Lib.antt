@@ -1,5 +1,0 @@
-pub mod Flips
-pub mod Turned
-pub mod Agree
-pub mod Secrecy
-pub mod FlopRuns

@@ -1,2 +1,0 @@
-pub mod WideCones
-pub mod Laws
