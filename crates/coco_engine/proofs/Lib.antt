@@ -1,7 +1,5 @@
-pub mod LabelCountLemmas
-pub mod LabelLines
-pub mod LabelNumbers
-pub mod LabelTables
 pub mod Pieces
-pub mod SetupLemmas
+pub mod Sizes
 pub mod Stops
+pub mod Replies
+pub mod Runs

@@ -1,130 +1,168 @@
--- What a call may leave in its sink, and the status that goes with it.
-use Rattle.std.specs.Prelude.{◌≡◌, ℕ, List, ◌⊎◌, Option, Some, None, Ok, codes}
+-- What a call may leave in its sink, and the status and the answer that go with it.
+use Rattle.std.specs.Prelude.{◌≡◌, ℕ, ◌≤◌, ◌++◌, Bool, true, false, [], ◌⊎◌, Option, Some, None, codes}
 use Rattle.coco_base.specs.Causes.{Rose}
-use Rattle.coco_base.specs.Outside.{IsContent, after}
+use Rattle.coco_base.specs.Outside.{after}
+use Rattle.coco_base.specs.declared.limits.Limits.{Limits}
 use Rattle.coco_base.specs.declared.status.Status.{Status}
 use Rattle.coco_base.specs.declared.status.Status.TheVariants.{Accepted, Rejected, Undecided, Refused, ReadFault, WriteFault, NoMemory, Usage}
+use Rattle.command_words.specs.Commands.{Check}
+use Rattle.derivation_check.specs.Texts.{derivation_text}
+use Rattle.leak_report.specs.Texts.{Text, printed}
+use Rattle.leak_report.specs.declared.answer.Answer.{Answer}
+use Rattle.leak_report.specs.declared.answer.Answer.TheVariants as answer
+use Rattle.refusal_lines.specs.Refusals.{refusal_line}
+use Rattle.refusal_lines.specs.declared.refusal.Refusal.{Refusal}
+use Rattle.refusal_lines.specs.declared.refusal.Refusal.TheVariants.{Long}
+use Rattle.run_inputs.specs.Inputs.{Files}
+use Rattle.run_verdict.specs.Written.{IsAsked}
+use Rattle.run_verdict.specs.declared.formula.Asked.{Asked}
 use Rattle.coco_engine.specs.Files.{HasPrefix}
-use Rattle.coco_engine.specs.Refusals.{refusal_line, refusal_of}
-use Rattle.coco_engine.specs.Text.{line_of}
-use Rattle.coco_engine.specs.Words.{Command}
-use Rattle.coco_base.specs.declared.netlist.Flat.{Flat}
-use Rattle.coco_engine.specs.Reports.{accepted_text, rejected_text}
-use Rattle.coco_base.specs.declared.setup.Setup.{Setup}
-use Rattle.coco_engine.specs.LabelFile.{labels_from}
-use Rattle.coco_engine.specs.declared.labels.Said.{Said}
-use Rattle.coco_engine.specs.Setups.{setup_of}
-use Rattle.coco_base.specs.declared.finding.Probe.{Probe}
-use Rattle.coco_model.specs.Reach.{AreConnected}
-use Rattle.coco_model.specs.Meaning.{HasMeaning}
-use Rattle.coco_model.specs.Secure.{IsProbe, IsSecure, IsWidelySecure}
-use Rattle.coco_model.specs.SecureInTime.{IsSecureInTime}
-use Rattle.wide_laws.specs.WideCones.{HidesSecrets}
-use Rattle.wide_cones.specs.Leaks.{IsFirstLeak}
-use Rattle.wide_cones.specs.declared.leak.Leak.{Leak}
-use Rattle.coco_engine.specs.declared.refusal.Refusal.{Refusal}
-use Rattle.coco_engine.specs.declared.refusal.Refusal.TheVariants.{Long, NotBuilt}
+use Rattle.coco_engine.specs.Judged.{IsJudged, IsRefusal}
+use Rattle.coco_engine.specs.Reading.{AreContents, AreShort, IsFirstLong, IsNamed}
+use Rattle.coco_engine.specs.declared.judging.Judged.{Judged}
 use Rattle.coco_engine.specs.declared.reading.ReadStop.{ReadStop}
 use Rattle.coco_engine.specs.declared.reading.ReadStop.TheVariants as stop
-use Rattle.first_netlist.specs.Netlist.{netlist_from}
 
-abbrev pub fault_line : List ℕ → List ℕ
-fault_line name = line_of (codes "read fault ") name (codes "\n")
+-- the limits of the programs
+abbrev pub usual : Limits
+usual = record { bits = 1000000; labels = 4096; nodes = 4000000; weight = 16000000 }
 
--- the report of a rejected run: the first probe whose structural cone holds all shares of a secret bit, and the leaves
--- that it reaches
-pub record Rejects (c : Command) (flat : Flat) (setup : Setup) (text : List ℕ) : Type 0 where
-  pub leak : Leak
-  pub first : IsFirstLeak flat setup c.cycles leak
-  pub leaves : List ℕ
-  pub reached : AreConnected flat setup.clock leak.probe.bit leaves
-  pub written : text ≡ rejected_text c flat setup.table leak leaves
+-- ---- what is answered
 
--- the report of an accepted run: each probe's structural cone lacks a share of every secret bit; runs and reaches
--- exist; and single probes see the same whatever the secrets are: the old and new values of all leaves that they reach
--- by structure, those of the leaves that they reach where calm bits block, and the waveforms of their bits under every
--- order of gate events
-pub record Accepts (c : Command) (flat : Flat) (setup : Setup) (text : List ℕ) : Type 0 where
-  pub hides : (p : Probe) → IsProbe flat.bits setup.clock c.cycles p → HidesSecrets flat setup p
-  pub meaning : HasMeaning flat setup c.cycles
-  pub secure : IsWidelySecure flat setup c.cycles 1
-  pub narrow : IsSecure flat setup c.cycles 1 1
-  pub in_time : IsSecureInTime flat setup c.cycles 1 1
-  pub written : text ≡ accepted_text c flat setup.table
+abbrev pub asked_by : Check → Asked
+asked_by c = record { order = c.sizes.order; window = c.sizes.window; cycles = c.sizes.cycles }
 
--- this text goes with this status for a netlist and a setup
-abbrev pub SetupAnswers : Command → Flat → Setup → Status → List ℕ → Type 0
-SetupAnswers c flat setup Accepted text = Accepts c flat setup text
-SetupAnswers c flat setup Rejected text = Rejects c flat setup text
-SetupAnswers c flat setup Undecided text = ⊥
-SetupAnswers c flat setup Refused text = ⊥
-SetupAnswers c flat setup ReadFault text = ⊥
-SetupAnswers c flat setup WriteFault text = ⊥
-SetupAnswers c flat setup NoMemory text = ⊥
-SetupAnswers c flat setup Usage text = ⊥
+-- numbers as they are in the grammar of the words
+pub record IsInSizes (c : Check) : Type 0 where
+  pub asked : IsAsked (asked_by c)
+  pub window : c.sizes.window ≤ 64
+  pub some_steps : 1 ≤ c.steps
+  pub steps : c.steps ≤ 1000000000
+  pub some_restart : 1 ≤ c.restart
+  pub restart : c.restart ≤ 1000000000
 
--- the label file is refused where it says nothing, and else the run is judged with what it says
-abbrev pub SaidAnswers : Command → Flat → Option Said → Status → List ℕ → Type 0
-SaidAnswers c flat None status text = (status ≡ Refused) × (text ≡ refusal_line (NotBuilt c.labels))
-SaidAnswers c flat (Some said) status text = SetupAnswers c flat (setup_of flat said) status text
+-- the formula and the derivation behind an accepted report, where they are asked for
+abbrev pub proof_part : Bool → Judged → Answer → Text
+proof_part true judged (answer.Accepted d) = judged.formula ++ derivation_text d.lines
+proof_part true judged (answer.Rejected f) = []
+proof_part true judged (answer.Undecided d) = []
+proof_part false judged given = []
 
--- this text goes with this status, where the netlist is read as this one, for a label file of these bytes
-abbrev pub FlatAnswers : Command → Flat → List ℕ → Status → List ℕ → Type 0
-FlatAnswers c flat labels status text = SaidAnswers c flat (labels_from flat labels) status text
+-- what is written for a judged run
+abbrev pub written_text : Bool → Judged → Text
+written_text proof judged = judged.report ++ proof_part proof judged judged.answer
 
--- there is a netlist that these bytes are read as, for which the answer is right
-pub record AnswersNetlist (c : Command) (netlist labels : List ℕ) (status : Status) (text : List ℕ) : Type 0 where
-  pub flat : Flat
-  pub read : netlist_from netlist ≡ Ok flat
-  pub answer : FlatAnswers c flat labels status text
+-- the answer is right for files of these bytes, with this text
+pub record AnswersRun (files : Files) (c : Check) (given : Answer) (text : Text) : Type 0 where
+  pub short : AreShort files
+  pub judged : Judged
+  pub is_judged : IsJudged files (asked_by c) c.steps usual judged
+  pub same : judged.answer ≡ given
+  pub written : text ≡ written_text c.proof judged
 
-abbrev pub ByRefusal : Command → List ℕ → List ℕ → Status → List ℕ → Option Refusal → Type 0
-ByRefusal c netlist labels status text None = AnswersNetlist c netlist labels status text
-ByRefusal c netlist labels status text (Some refusal) = (status ≡ Refused) × (text ≡ refusal_line refusal)
+-- the line is right for files of these bytes: one is too long, or what they make is refused
+pub record AnswersRefusal (files : Files) (c : Check) (text : Text) : Type 0 where
+  pub refusal : Refusal
+  pub cause : ((name : Text) × IsFirstLong c.files files name × (refusal ≡ Long name))
+      ⊎ (AreShort files × IsRefusal files (asked_by c) usual refusal)
+  pub written : text ≡ refusal_line refusal
 
--- this text goes with this status, for files of these bytes: where a file is refused by its length or the netlist by
--- its bytes, the line of the first such refusal; and else what the netlist's answer is
-abbrev pub Answers : Command → List ℕ → List ℕ → Status → List ℕ → Type 0
-Answers c netlist labels status text = ByRefusal c netlist labels status text (refusal_of c netlist labels)
+-- an answer of a form, which is right with this text
+abbrev pub AnswersWith : (Answer → Type 0) → Files → Check → Option Answer → Text → Type 0
+AnswersWith form files c None text = ⊥
+AnswersWith form files c (Some given) text = form given × AnswersRun files c given text
 
--- there are bytes of the two files, which the shelf does not contradict, for which the answer is right
-pub record AnswersFiles (told : List ℕ → Option (List ℕ)) (c : Command) (status : Status) (text : List ℕ) : Type 0 where
-  pub netlist : List ℕ
-  pub labels : List ℕ
-  pub netlist_is : IsContent (told c.netlist) netlist
-  pub labels_are : IsContent (told c.labels) labels
-  pub answer : Answers c netlist labels status text
+-- the status of an answer
+abbrev pub status_of : Answer → Status
+status_of (answer.Accepted d) = Accepted
+status_of (answer.Rejected f) = Rejected
+status_of (answer.Undecided d) = Undecided
 
--- the shelf's count of faults rose in this call, and the text names one of the two files
-pub record AnswersFault (before now : ℕ) (c : Command) (text : List ℕ) : Type 0 where
+-- an accepted answer goes with its status, and so do the others
+abbrev pub IsAccepting : Answer → Type 0
+IsAccepting (answer.Accepted d) = Unit {0}
+IsAccepting (answer.Rejected f) = ⊥
+IsAccepting (answer.Undecided d) = ⊥
+
+abbrev pub IsRejecting : Answer → Type 0
+IsRejecting (answer.Accepted d) = ⊥
+IsRejecting (answer.Rejected f) = Unit {0}
+IsRejecting (answer.Undecided d) = ⊥
+
+abbrev pub IsGivingUp : Answer → Type 0
+IsGivingUp (answer.Accepted d) = ⊥
+IsGivingUp (answer.Rejected f) = ⊥
+IsGivingUp (answer.Undecided d) = Unit {0}
+
+-- the texts that go with a status and an answer, for files of these bytes
+abbrev pub AnswersFiles : Files → Check → Status → Option Answer → Text → Type 0
+AnswersFiles files c Accepted given text = AnswersWith IsAccepting files c given text
+AnswersFiles files c Rejected given text = AnswersWith IsRejecting files c given text
+AnswersFiles files c Undecided given text = AnswersWith IsGivingUp files c given text
+AnswersFiles files c Refused given text = (given ≡ None) × AnswersRefusal files c text
+AnswersFiles files c ReadFault given text = ⊥
+AnswersFiles files c WriteFault given text = ⊥
+AnswersFiles files c NoMemory given text = ⊥
+AnswersFiles files c Usage given text = ⊥
+
+-- there are bytes of the files, which the shelf does not contradict, for which the answer is right
+pub record AnswersTold (told : Text → Option Text) (c : Check) (status : Status) (given : Option Answer) (text : Text)
+    : Type 0 where
+  pub files : Files
+  pub contents : AreContents told c.files files
+  pub answers : AnswersFiles files c status given text
+
+abbrev pub fault_line : Text → Text
+fault_line name = codes "read fault " ++ printed name ++ codes "\n"
+
+-- the shelf's count of faults rose in this call, and the text names one of the files
+pub record AnswersFault (before now : ℕ) (c : Check) (text : Text) : Type 0 where
   pub rose : Rose before now
-  pub named : (text ≡ fault_line c.netlist) ⊎ (text ≡ fault_line c.labels)
+  pub name : Text
+  pub named : IsNamed c.files name
+  pub written : text ≡ fault_line name
 
--- what is answered in place of a file that was not read
-abbrev pub StopAnswers : List ℕ → ReadStop → Status → List ℕ → Type 0
-StopAnswers name stop.Long status text = (status ≡ Refused) × (text ≡ refusal_line (Long name))
-StopAnswers name stop.Failed status text = (status ≡ ReadFault) × (text ≡ fault_line name)
-StopAnswers name stop.Memory status text = ⊥
+-- ---- what is written
 
--- the texts that a call may write whole, with their statuses
-abbrev pub MayWrite : (List ℕ → Option (List ℕ)) → ℕ → ℕ → Command → Status → List ℕ → Type 0
-MayWrite told before now c Accepted text = AnswersFiles told c Accepted text
-MayWrite told before now c Rejected text = AnswersFiles told c Rejected text
-MayWrite told before now c Undecided text = ⊥
-MayWrite told before now c Refused text = AnswersFiles told c Refused text
-MayWrite told before now c ReadFault text = AnswersFault before now c text
-MayWrite told before now c WriteFault text = ⊥
-MayWrite told before now c NoMemory text = ⊥
-MayWrite told before now c Usage text = ⊥
+-- the texts that a call may write whole, with their statuses and answers
+abbrev pub MayWrite : (Text → Option Text) → ℕ → ℕ → Check → Status → Option Answer → Text → Type 0
+MayWrite told before now c Accepted given text = AnswersTold told c Accepted given text
+MayWrite told before now c Rejected given text = AnswersTold told c Rejected given text
+MayWrite told before now c Undecided given text = AnswersTold told c Undecided given text
+MayWrite told before now c Refused given text = AnswersTold told c Refused given text
+MayWrite told before now c ReadFault given text = (given ≡ None) × AnswersFault before now c text
+MayWrite told before now c WriteFault given text = ⊥
+MayWrite told before now c NoMemory given text = ⊥
+MayWrite told before now c Usage given text = ⊥
 
--- what a call leaves in its sink, whose words are of the grammar: a whole text, after a failed write a proper front
--- of one that it could have written whole, and nothing where memory was refused
-abbrev pub Leaves : (Status → List ℕ → Type 0) → Option (List ℕ) → Option (List ℕ) → Status → Type 0
-Leaves may old new Accepted = (text : List ℕ) × may Accepted text × (new ≡ after old text)
-Leaves may old new Rejected = (text : List ℕ) × may Rejected text × (new ≡ after old text)
-Leaves may old new Undecided = ⊥
-Leaves may old new Refused = (text : List ℕ) × may Refused text × (new ≡ after old text)
-Leaves may old new ReadFault = (text : List ℕ) × may ReadFault text × (new ≡ after old text)
-Leaves may old new WriteFault = (status : Status) × (text : List ℕ) × may status text × HasPrefix old new text
-Leaves may old new NoMemory = new ≡ old
-Leaves may old new Usage = ⊥
+-- what is answered in place of files that are not read, because of that of this name
+abbrev pub AnswersStop : Text → ReadStop → Status → Option Answer → Text → Type 0
+AnswersStop name stop.Long status given text =
+    (status ≡ Refused) × (given ≡ None) × (text ≡ refusal_line (Long name))
+AnswersStop name stop.Failed status given text =
+    (status ≡ ReadFault) × (given ≡ None) × (text ≡ fault_line name)
+AnswersStop name stop.Memory status given text = ⊥
+
+-- a call that writes a whole text leaves it in its sink
+abbrev pub LeavesWhole : (Text → Type 0) → Option Text → Option Text → Type 0
+LeavesWhole may old new = (text : Text) × may text × (new ≡ after old text)
+
+-- after a failed write, a proper front of a text that could have been written whole
+pub record LeavesFront (may : Status → Option Answer → Text → Type 0) (old new : Option Text) : Type 0 where
+  pub status : Status
+  pub given : Option Answer
+  pub text : Text
+  pub may_be : may status given text
+  pub front : HasPrefix old new text
+
+-- what a call leaves in its sink, whose words are of the grammar
+abbrev pub Leaves : (Status → Option Answer → Text → Type 0) → Option Text → Option Text → Status → Option Answer
+    → Type 0
+Leaves may old new Accepted given = LeavesWhole (may Accepted given) old new
+Leaves may old new Rejected given = LeavesWhole (may Rejected given) old new
+Leaves may old new Undecided given = LeavesWhole (may Undecided given) old new
+Leaves may old new Refused given = LeavesWhole (may Refused given) old new
+Leaves may old new ReadFault given = LeavesWhole (may ReadFault given) old new
+Leaves may old new WriteFault given = (given ≡ None) × LeavesFront may old new
+Leaves may old new NoMemory given = (given ≡ None) × (new ≡ old)
+Leaves may old new Usage given = ⊥

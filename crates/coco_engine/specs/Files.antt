@@ -2,6 +2,10 @@
 use Rattle.std.specs.Prelude.{◌≡◌, ◌<◌, ℕ, List, length, take, Option, IfSome}
 use Rattle.coco_base.specs.Outside.{after}
 
+-- the most bytes that a file may have
+abbrev pub file_limit : ℕ
+file_limit = 134217728
+
 -- these bytes stand at the front of the file, where the shelf tells it
 abbrev pub IsFront : Option (List ℕ) → List ℕ → Type 0
 IsFront told bytes = IfSome told (λ file. bytes ≡ take (length bytes) file)

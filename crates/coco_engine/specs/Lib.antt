@@ -1,13 +1,4 @@
-pub mod Answers
 pub mod Files
-pub mod Findings
-pub mod LabelFile
-pub mod LabelRoom
-pub mod Names
-pub mod Refusals
-pub mod Reports
-pub mod Requests
-pub mod Setups
-pub mod Shown
-pub mod Text
-pub mod Words
+pub mod Reading
+pub mod Judged
+pub mod Answers

@@ -1,8 +1,7 @@
 ghost use Rattle.std.specs.Prelude.{◌≡◌, ◌++◌, ◌-◌, ◌≤◌, ◌<◌, length, take, drop, vec_len, IfOk, IsErrOf};
 ghost use Rattle.coco_base.specs.Causes.{Rose};
 ghost use Rattle.coco_base.specs.Outside.{IsContent};
-ghost use Rattle.coco_engine.specs.Files.{IsLonger};
-ghost use Rattle.coco_engine.specs.Refusals.{file_limit};
+ghost use Rattle.coco_engine.specs.Files.{IsLonger, file_limit};
 
 use coco_base::{NoMemory, Shelf};
 use std::alloc::Global;

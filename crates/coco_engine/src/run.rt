@@ -1,153 +1,218 @@
-ghost use Rattle.std.specs.Prelude.{◌≡◌, ◌↔◌, ◌≤◌, IfOk, IfSome, None, length};
+ghost use Rattle.std.specs.Prelude.{◌≡◌, ◌≤◌, ◌<◌, ◌++◌, ◌⊎◌, length, IfOk, IfSome, OnOk, None, Some, option_map, true};
 ghost use Rattle.coco_base.specs.Causes.{Rose};
-ghost use Rattle.netlist_facts.specs.Laws.{IsBuilt};
-ghost use Rattle.wide_cones.specs.Ready.{IsReady};
-ghost use Rattle.wide_laws.specs.Laws.{HasNoControls};
-ghost use Rattle.coco_engine.specs.Answers.{Answers, FlatAnswers, Leaves, MayWrite, SetupAnswers, StopAnswers};
-ghost use Rattle.coco_engine.specs.Refusals.{file_limit, refusal_line};
-ghost use Rattle.coco_engine.specs.Requests.{shown_command};
-ghost use Rattle.coco_engine.specs.Words.{command, texts};
+ghost use Rattle.command_words.specs.Commands.{check_command};
+ghost use Rattle.command_words.specs.Shown.{shown_check, shown_files};
+ghost use Rattle.command_words.specs.Words.{texts};
+ghost use Rattle.refusal_lines.specs.Refusals.{refusal_line};
+ghost use Rattle.run_inputs.specs.Inputs.{files_in};
+ghost use Rattle.coco_engine.specs.Answers.{AnswersFiles, AnswersStop, IsInSizes, Leaves, MayWrite, asked_by, fault_line, proof_part, status_of, written_text};
+ghost use Rattle.coco_engine.specs.Judged.{asked_in};
+ghost use Rattle.coco_engine.specs.Reading.{AreShort, files_from};
 
-use crate::labels::read_labels;
-use crate::reading::{ReadStop, read_whole};
-use crate::refusal::{Refusal, refusal_text};
-use crate::report::{accepted_report, rejected_report};
-use crate::setup::setup_of;
-use crate::text::line;
-use crate::words::{Request, read_words};
+use crate::files::{FileBytes, FileStop, is_word_file, read_files};
+use crate::judging::{Judged, judge};
+use crate::reading::ReadStop;
 use crate::writing::write_whole;
-use coco_base::{Failed, Flat, NoMemory, Setup, Shelf, Sink, Status, Text};
-use first_netlist::{NetFault, read_netlist};
-use netlist_facts::built_law;
+use coco_base::{Failed, Limits, NoMemory, Shelf, Sink, Status, Text};
+use command_words::{CheckRequest, read_check};
+use derivation_check::print_derivation;
+use leak_report::Answer;
+use leak_report::text::{add, add_name};
+use pickers::Picker;
+use refusal_lines::{Refusal, Stop, refusal_line};
+use run_inputs::Inputs;
 use std::alloc::Global;
-use wide_cones::{first_leak, reached_leaves};
-use wide_laws::hidden_in_time_law;
 
-/// What a call writes, and the status that goes with it.
+/// What a call came to: its status, and the answer where a run was judged.
+#[derive(Debug, Drop)]
+pub struct Ran {
+    pub status: Status,
+    pub answer: Option<Answer>,
+}
+
+/// What a call writes, and what it comes to where that is written whole.
 #[derive(Debug, Drop)]
 struct Reply {
-    status: Status,
+    ran: Ran,
     text: Vec<u8>,
 }
 
+fn reply_without(status: Status, text: Vec<u8>) -> Reply
+    ensures status { result.ran.status ≡ status }
+    ensures unanswered { result.ran.answer ≡ None }
+    ensures text { result.text ≡ text }
+{
+    Reply {
+        ran: ran_without(status),
+        text,
+    }
+}
+
 // the reply that refuses a call
-fn refusal_reply(alloc: Global, refusal: &Refusal) -> Result<Reply, NoMemory>
-    ensures status { IfOk result (λ r. r.status ≡ Status.Refused) }
-    ensures text { IfOk result (λ r. r.text.items ≡ refusal_line refusal.now) }
+fn refusal_reply(alloc: Global, refusal: Refusal) -> Result<Reply, NoMemory>
+    ensures status { IfOk result (λ r. r.ran.status ≡ Status.Refused) }
+    ensures unanswered { IfOk result (λ r. r.ran.answer ≡ None) }
+    ensures text { IfOk result (λ r. r.text.items ≡ refusal_line refusal) }
 {
-    Ok(Reply {
-        status: Status::Refused,
-        text: refusal_text(alloc, refusal)?,
-    })
+    let text = refusal_line(alloc, &refusal)?;
+    Ok(reply_without(Status::Refused, text))
 }
 
-// the reply where the file of a name is outside the form
-fn form_reply(alloc: Global, name: &str) -> Result<Reply, NoMemory>
-    ensures status { IfOk result (λ r. r.status ≡ Status.Refused) }
-    ensures text { IfOk result (λ r. r.text.items ≡ refusal_line (Refusal.NotBuilt name.now)) }
+fn fault_line(alloc: Global, name: &str) -> Result<Vec<u8>, NoMemory>
+    ensures { IfOk result (λ v. v.items ≡ fault_line name.now) }
 {
-    let name = Text::of(alloc, name)?;
-    refusal_reply(alloc, &Refusal::NotBuilt { name })
+    let mut text = b"read fault ".to_vec(alloc)?;
+    add_name(&mut text, alloc, name.as_bytes())?;
+    add(&mut text, b"\n")?;
+    Ok(text)
 }
 
-// the verdict on a netlist with a setup
-fn verdict(alloc: Global, request: &Request, flat: &Flat, setup: &Setup) -> Result<Reply, NoMemory>
-    requires ready { IsReady flat.now setup.now }
-    requires free { HasNoControls flat.now setup.now }
-    ensures { IfOk result (λ r. SetupAnswers (shown_command request.now) flat.now setup.now r.status r.text.items) }
+// the reply in place of files that are not read
+fn stop_reply(alloc: Global, stop: FileStop<'_>) -> Result<Reply, NoMemory>
+    ensures { IfOk result (λ r. AnswersStop stop.entry.name.now stop.entry.stop
+        r.ran.status r.ran.answer r.text.items) }
 {
-    let Some(leak) = first_leak(alloc, flat, setup, request.cycles)? else {
-        // no probe's cone holds a secret, so single probes see the same whatever the secrets are
-        hidden_in_time_law();
-        return Ok(Reply {
-            status: Status::Accepted,
-            text: accepted_report(alloc, request, flat, &setup.table)?,
-        });
-    };
-    let leaves = reached_leaves(alloc, flat, setup, leak.probe.bit)?;
-    Ok(Reply {
-        status: Status::Rejected,
-        text: rejected_report(alloc, request, flat, &setup.table, &leak, leaves.as_slice())?,
-    })
-}
-
-// the reply to a label file of these bytes
-fn flat_reply(
-    alloc: Global,
-    request: &Request,
-    flat: &Flat,
-    labels: &[u8],
-) -> Result<Reply, NoMemory>
-    requires { IsBuilt flat.now }
-    ensures { IfOk result (λ r. FlatAnswers (shown_command request.now) flat.now labels.now r.status r.text.items) }
-{
-    match read_labels(alloc, flat, labels)? {
-        Some(read) => {
-            let setup = setup_of(alloc, flat, read);
-            verdict(alloc, request, flat, &setup)
-        }
-        None => form_reply(alloc, request.labels),
-    }
-}
-
-// the reply to the bytes of a netlist and of a label file
-fn bytes_reply(
-    alloc: Global,
-    request: &Request,
-    netlist: &[u8],
-    labels: &[u8],
-) -> Result<Reply, NoMemory>
-    requires netlist_fits { length netlist.now ≤ file_limit }
-    requires labels_fit { length labels.now ≤ file_limit }
-    ensures { IfOk result (λ r. Answers (shown_command request.now) netlist.now labels.now r.status r.text.items) }
-{
-    // what is read as a netlist has no loops, and its one port is the clock
-    built_law();
-    match read_netlist(alloc, netlist) {
-        Ok(flat) => flat_reply(alloc, request, &flat, labels),
-        Err(NetFault::NotJson) => refusal_reply(alloc, &Refusal::NotJson),
-        Err(NetFault::NotBuilt) => form_reply(alloc, request.netlist),
-        Err(NetFault::Memory) => Err(NoMemory),
-    }
-}
-
-// the reply in place of a file that was not read
-fn stop_reply(alloc: Global, name: &str, stop: ReadStop) -> Result<Reply, NoMemory>
-    ensures { IfOk result (λ r. StopAnswers name.now stop r.status r.text.items) }
-{
-    match stop {
+    match stop.stop {
         ReadStop::Long => {
-            let name = Text::of(alloc, name)?;
-            refusal_reply(alloc, &Refusal::Long { name })
+            let name = Text::of(alloc, stop.name)?;
+            refusal_reply(alloc, Refusal::Long { name })
         }
-        ReadStop::Failed => Ok(Reply {
-            status: Status::ReadFault,
-            text: line(alloc, b"read fault ", name.as_bytes(), b"\n")?,
-        }),
+        ReadStop::Failed => Ok(reply_without(Status::ReadFault, fault_line(alloc, stop.name)?)),
         ReadStop::Memory => Err(NoMemory),
     }
 }
 
-// the reply to the two files of a shelf
-fn reply_to<F: Shelf>(alloc: Global, request: &Request, shelf: &mut F) -> Result<Reply, NoMemory>
+fn status_of(answer: &Answer) -> Status
+    ensures { result ≡ status_of answer.now }
+{
+    match answer {
+        Answer::Accepted(_) => Status::Accepted,
+        Answer::Rejected(_) => Status::Rejected,
+        Answer::Undecided(_) => Status::Undecided,
+    }
+}
+
+// adds the formula and the derivation behind an accepted report
+fn add_proof(text: &mut Vec<u8>, alloc: Global, judged: &Judged) -> Result<(), NoMemory>
+    ensures { OnOk result (text.new.items ≡ text.old.items ++ proof_part true judged.now judged.now.answer) }
+{
+    match &judged.answer {
+        Answer::Accepted(derivation) => {
+            add(text, judged.formula.as_slice())?;
+            let lines = print_derivation(alloc, derivation)?;
+            add(text, lines.as_slice())
+        }
+        Answer::Rejected(_) => Ok(()),
+        Answer::Undecided(_) => Ok(()),
+    }
+}
+
+// what is written for a judged run
+fn written_text(alloc: Global, proof: bool, judged: &Judged) -> Result<Vec<u8>, NoMemory>
+    ensures { IfOk result (λ v. v.items ≡ written_text proof judged.now) }
+{
+    let mut text = judged.report.as_slice().to_vec(alloc)?;
+    if proof {
+        add_proof(&mut text, alloc, judged)?;
+    }
+    Ok(text)
+}
+
+fn judged_reply(alloc: Global, proof: bool, judged: Judged) -> Result<Reply, NoMemory>
+    ensures status { IfOk result (λ r. r.ran.status ≡ status_of judged.answer) }
+    ensures answer { IfOk result (λ r. r.ran.answer ≡ Some judged.answer) }
+    ensures text { IfOk result (λ r. r.text.items ≡ written_text proof judged) }
+{
+    let text = written_text(alloc, proof, &judged)?;
+    let Judged { answer, .. } = judged;
+    let ran = Ran {
+        status: status_of(&answer),
+        answer: Some(answer),
+    };
+    Ok(Reply { ran, text })
+}
+
+fn program_of(files: &FileBytes) -> Option<&[u8]>
+    ensures { option_map (λ bytes. bytes.now) result ≡ option_map (λ v. v.items) files.now.program }
+{
+    match &files.program {
+        Some(bytes) => Some(bytes.as_slice()),
+        None => None,
+    }
+}
+
+fn inputs_of<'a>(request: &CheckRequest<'a>, files: &'a FileBytes) -> Inputs<'a>
+    ensures files { files_in result ≡ files_from (shown_files request.now.files) files.entry.now }
+    ensures asked { asked_in result ≡ asked_by (shown_check request.now) }
+    ensures steps { result.steps ≡ request.now.steps }
+    ensures restart { result.restart ≡ request.now.restart }
+{
+    Inputs {
+        netlist: files.netlist.as_slice(),
+        labels: files.labels.as_slice(),
+        program: program_of(files),
+        word_file: is_word_file(request.files.program),
+        top: request.files.top,
+        order: request.sizes.order,
+        window: request.sizes.window,
+        cycles: request.sizes.cycles,
+        steps: request.steps,
+        restart: request.restart,
+    }
+}
+
+// the reply to files that are read
+fn files_reply(
+    alloc: Global,
+    request: &CheckRequest<'_>,
+    files: &FileBytes,
+    pickers: Vec<Box<dyn Picker>>,
+) -> Result<Reply, NoMemory>
+    requires sizes { IsInSizes (shown_check request.now) }
+    requires short { AreShort (files_from (shown_files request.now.files) files.now) }
+    requires pickers { 0 < length pickers.items }
+    ensures { IfOk result (λ r. AnswersFiles (files_from (shown_files request.now.files) files.now)
+        (shown_check request.now) r.ran.status r.ran.answer r.text.items) }
+{
+    let inputs = inputs_of(request, files);
+    match judge(alloc, &inputs, &Limits::usual(), pickers) {
+        Ok(judged) => judged_reply(alloc, request.proof, judged),
+        Err(Stop::Refused(refusal)) => refusal_reply(alloc, refusal),
+        Err(Stop::Memory) => Err(NoMemory),
+    }
+}
+
+// the reply to the files of a shelf
+fn reply_to<F: Shelf>(
+    alloc: Global,
+    request: &CheckRequest<'_>,
+    shelf: &mut F,
+    pickers: Vec<Box<dyn Picker>>,
+) -> Result<Reply, NoMemory>
+    requires sizes { IsInSizes (shown_check request.now) }
+    requires pickers { 0 < length pickers.items }
     ensures answer { IfOk result (λ r. MayWrite (F.holds shelf.old) (F.faults shelf.old) (F.faults shelf.new)
-        (shown_command request.now) r.status r.text.items) }
+        (shown_check request.now) r.ran.status r.ran.answer r.text.items) }
     ensures held { F.holds shelf.new ≡ F.holds shelf.old }
     ensures later { F.faults shelf.old ≤ F.faults shelf.new }
 {
-    let netlist = match read_whole(alloc, shelf, request.netlist) {
-        Ok(bytes) => bytes,
-        Err(stop) => return stop_reply(alloc, request.netlist, stop),
-    };
-    let labels = match read_whole(alloc, shelf, request.labels) {
-        Ok(bytes) => bytes,
-        Err(stop) => return stop_reply(alloc, request.labels, stop),
-    };
-    bytes_reply(alloc, request, netlist.as_slice(), labels.as_slice())
+    match read_files(alloc, shelf, &request.files) {
+        Ok(files) => files_reply(alloc, request, &files, pickers),
+        Err(stop) => stop_reply(alloc, stop),
+    }
 }
 
-/// Judges a netlist with a label file, named by the first two words, for as many cycles as the third word says, and
-/// writes the report, a refusal or a fault.
+fn ran_without(status: Status) -> Ran
+    ensures status { result.status ≡ status }
+    ensures unanswered { result.answer ≡ None }
+{
+    Ran {
+        status,
+        answer: None,
+    }
+}
+
+/// Judges a netlist with a label file and a program, as its words say, and writes the report, a refusal or a fault.
 ///
 /// Words outside the grammar give `Usage`. The other clauses say what is left in the sink: for each status which text,
 /// after a failed write a proper front of a text that could have been written whole, and nothing where memory was
@@ -158,27 +223,33 @@ pub fn check_run<F: Shelf, K: Sink>(
     words: &[String],
     shelf: &mut F,
     out: &mut K,
-) -> Status
-    ensures usage { (result ≡ Status.Usage) ↔ (command (texts words.now) ≡ None) }
-    ensures untouched { result ≡ Status.Usage → (shelf.new ≡ shelf.old) × (out.new ≡ out.old) }
-    ensures read_fault { result ≡ Status.ReadFault → Rose (F.faults shelf.old) (F.faults shelf.new) }
-    ensures write_fault { result ≡ Status.WriteFault → Rose (K.faults out.old) (K.faults out.new) }
-    ensures no_memory { result ≡ Status.NoMemory → out.new ≡ out.old }
-    ensures never { result ≡ Status.Undecided → ⊥ }
-    ensures leaves { IfSome (command (texts words.now)) (λ c.
+    pickers: Vec<Box<dyn Picker>>,
+) -> Ran
+    requires { 0 < length pickers.items }
+    ensures usage { result.status ≡ Status.Usage → check_command (texts words.now) ≡ None }
+    ensures grammar { check_command (texts words.now) ≡ None
+        → (result.status ≡ Status.Usage) ⊎ (result.status ≡ Status.NoMemory) }
+    ensures untouched { result.status ≡ Status.Usage → (shelf.new ≡ shelf.old) × (out.new ≡ out.old) }
+    ensures unanswered { result.status ≡ Status.Usage → result.answer ≡ None }
+    ensures read_fault { result.status ≡ Status.ReadFault → Rose (F.faults shelf.old) (F.faults shelf.new) }
+    ensures write_fault { result.status ≡ Status.WriteFault → Rose (K.faults out.old) (K.faults out.new) }
+    ensures no_memory { result.status ≡ Status.NoMemory → out.new ≡ out.old }
+    ensures leaves { IfSome (check_command (texts words.now)) (λ c.
         Leaves (MayWrite (F.holds shelf.old) (F.faults shelf.old) (F.faults shelf.new) c)
-        (K.taken out.old) (K.taken out.new) result) }
+        (K.taken out.old) (K.taken out.new) result.status result.answer) }
     ensures held { F.holds shelf.new ≡ F.holds shelf.old }
     ensures later { (F.faults shelf.old ≤ F.faults shelf.new) × (K.faults out.old ≤ K.faults out.new) }
 {
-    let Some(request) = read_words(words) else {
-        return Status::Usage;
+    let request = match read_check(alloc, words) {
+        Ok(Some(request)) => request,
+        Ok(None) => return ran_without(Status::Usage),
+        Err(NoMemory) => return ran_without(Status::NoMemory),
     };
-    let Ok(reply) = reply_to(alloc, &request, shelf) else {
-        return Status::NoMemory;
+    let Ok(reply) = reply_to(alloc, &request, shelf, pickers) else {
+        return ran_without(Status::NoMemory);
     };
     match write_whole(out, reply.text.as_slice()) {
-        Ok(()) => reply.status,
-        Err(Failed) => Status::WriteFault,
+        Ok(()) => reply.ran,
+        Err(Failed) => ran_without(Status::WriteFault),
     }
 }
