@@ -1,19 +1,24 @@
-//! Judges a masked netlist: `coco_check NETLIST LABELS CYCLES`.
+//! Judges masked software on a processor netlist: `coco_check --netlist N --labels L ..`.
 #![tactic(auto)]
 
 #[cfg(test)]
 mod tests;
 
-use coco_base::{FolderShelf, OutSink, Status};
+use coco_base::{FolderShelf, NoMemory, OutSink, Status};
 use coco_engine::check_run;
+use command_words::Usage;
+use command_words::table::check_table;
+use pickers::{LastBumped, MostBumped, Picker, Seeded};
 use std::alloc::Global;
 use std::env::{self, Env};
 use std::io::{self, ErrorKind};
 use std::process::ExitCode;
 
-const USAGE: &str = "coco_check NETLIST LABELS CYCLES";
+/// How many variables a picker takes notice of.
+const PICKER_SIZE: u32 = 1 << 20;
 
-const NO_MEMORY: &str = "no memory";
+/// The seed of the picker that picks by chance.
+const SEED: u64 = 1;
 
 // the words after the program's name
 fn call_words(rt: &(impl Env + AllocGlobal)) -> io::Result<Vec<String>> {
@@ -33,32 +38,46 @@ fn refusal_status(kind: ErrorKind) -> Status {
     }
 }
 
+// the status of a run: it picks the most bumped variable, and at restarts by chance and then the last bumped one
+fn judge(rt: &HostRuntime, words: &[String]) -> Result<Status, NoMemory> {
+    let alloc: Global = rt.alloc();
+    // the one that is taken first stands last
+    let mut pickers: Vec<Box<dyn Picker>> = Vec::new(alloc);
+    pickers.push(Box::new(alloc, LastBumped::new(alloc, PICKER_SIZE)?)?)?;
+    pickers.push(Box::new(alloc, Seeded::new(SEED))?)?;
+    pickers.push(Box::new(alloc, MostBumped::new(alloc, PICKER_SIZE)?)?)?;
+    let ran = check_run(
+        alloc,
+        words,
+        &mut FolderShelf::new(rt),
+        &mut OutSink::new(rt),
+        pickers,
+    );
+    Ok(ran.status)
+}
+
 fn run(rt: &HostRuntime) -> Status {
     match call_words(rt) {
-        Ok(words) => check_run(
-            rt.alloc(),
-            words.as_slice(),
-            &mut FolderShelf::new(rt),
-            &mut OutSink::new(rt),
-        ),
+        Ok(words) => judge(rt, words.as_slice()).unwrap_or(Status::NoMemory),
         Err(error) => refusal_status(error.kind()),
     }
 }
 
-// what stands on standard error beside a status
-fn error_line(status: Status) -> Option<&'static str> {
+// what stands on standard error beside a status; a line that cannot be written changes no status
+fn tell(rt: &HostRuntime, status: Status) {
     match status {
-        Status::Usage => Some(USAGE),
-        Status::NoMemory => Some(NO_MEMORY),
-        _ => None,
+        Status::Usage => {
+            let _ = eprintln!(rt; "{}", Usage(&check_table()));
+        }
+        Status::NoMemory => {
+            let _ = eprintln!(rt; "{NoMemory}");
+        }
+        _ => {}
     }
 }
 
 fn main(rt: HostRuntime) -> ExitCode {
     let status = run(&rt);
-    if let Some(line) = error_line(status) {
-        // a line that cannot be written changes no status
-        let _ = eprintln!(rt; "{line}");
-    }
+    tell(&rt, status);
     ExitCode::from(status as u8)
 }

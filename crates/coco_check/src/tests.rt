@@ -1,4 +1,4 @@
-use crate::{call_words, error_line, refusal_status};
+use crate::{call_words, refusal_status};
 use coco_base::Status;
 use std::alloc::{AllocError, Global};
 use std::env::{Env, FillError};
@@ -39,9 +39,9 @@ fn called(alloc: Global, words: &'static [&'static [u8]]) -> (Words, Global) {
 
 #[test]
 fn the_words_are_those_after_the_name_of_the_program(rt: HostRuntime) -> Result<(), Fail> {
-    let gathered = call_words(&called(rt.alloc(), &[b"coco_check", b"n.json", b"", b"1"]))?;
+    let gathered = call_words(&called(rt.alloc(), &[b"coco_check", b"--netlist", b"", b"n.json"]))?;
     assert_eq!(rt; gathered.len(), 3);
-    for (word, want) in gathered.iter().zip(["n.json", "", "1"]) {
+    for (word, want) in gathered.iter().zip(["--netlist", "", "n.json"]) {
         assert_eq!(rt; word.as_str(), want);
     }
     Ok(())
@@ -49,7 +49,7 @@ fn the_words_are_those_after_the_name_of_the_program(rt: HostRuntime) -> Result<
 
 #[test]
 fn a_word_that_is_no_text_is_a_faulty_call(rt: HostRuntime) {
-    match call_words(&called(rt.alloc(), &[b"coco_check", b"\xff", b"l.txt", b"1"])) {
+    match call_words(&called(rt.alloc(), &[b"coco_check", b"\xff", b"--labels", b"l.txt"])) {
         Ok(_) => panic!(rt; "the word is no text"),
         Err(error) => assert_eq!(rt; refusal_status(error.kind()), Status::Usage),
     }
@@ -75,24 +75,5 @@ fn each_status_has_its_number(rt: HostRuntime) {
     ];
     for (number, status) in statuses.iter().enumerate() {
         assert_eq!(rt; *status as usize, number);
-    }
-}
-
-#[test]
-fn two_statuses_have_a_line_on_standard_error(rt: HostRuntime) {
-    assert_eq!(rt;
-        error_line(Status::Usage),
-        Some("coco_check NETLIST LABELS CYCLES")
-    );
-    assert_eq!(rt; error_line(Status::NoMemory), Some("no memory"));
-    for status in [
-        Status::Accepted,
-        Status::Rejected,
-        Status::Undecided,
-        Status::Refused,
-        Status::ReadFault,
-        Status::WriteFault,
-    ] {
-        assert_eq!(rt; error_line(status), None);
     }
 }
