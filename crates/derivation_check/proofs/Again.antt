@@ -1,6 +1,6 @@
 -- A proof text is that of one derivation, and at fault nowhere.
-use Rattle.std.proofs.Common.{◌≡◌, ◌≢◌, ℕ, suc, zero, ◌+◌, ◌<◌, ◌≤◌, ◌⊎◌, List, [], ◌∷◌, ◌++◌, length, decimal, codes, Result, Ok, Err, IfOk, IfErr, MatchResult, refl, sym, ◌∙◌, ap, subst, inl, inr, arith}
-use Rattle.std.specs.List.{flat_map, All}
+use Rattle.std.proofs.Common.{◌≡◌, ◌≢◌, ℕ, ◌+◌, ◌<◌, ◌≤◌, List, [], ◌∷◌, ◌++◌, length, decimal, codes, Result, Ok, Err, IfOk, IfErr, MatchResult, refl, sym, ◌∙◌, ap, subst, inl, inr, arith}
+use Rattle.std.specs.List.{All}
 use Rattle.std.proofs.lemmas.List.{append_assoc, append-nil, append_cancel_left, length-append}
 use Rattle.clause_store.specs.declared.lit.Lit.{Lit}
 use Rattle.clause_store.specs.declared.line.Cut.{Cut}
@@ -8,9 +8,8 @@ use Rattle.clause_store.specs.declared.line.Line.{Line}
 use Rattle.clause_store.specs.declared.line.Derivation.{Derivation}
 use Rattle.derivation_check.specs.declared.read.ProofFault.{ProofFault}
 use Rattle.derivation_check.specs.declared.read.ProofFault.TheVariants.{BadLine, Memory}
-use Rattle.derivation_check.specs.Texts.{head_text, line_text, lines_text, lits_text, cuts_text, index_text, cut_text, derivation_text, IsCutInRange, IsPrintable, IsProofText}
-use Rattle.derivation_check.specs.Faults.{IsFault, IsNoHead, IsBadLine}
-use Rattle.derivation_check.proofs.Numbers.{decimal_digits}
+use Rattle.derivation_check.specs.Texts.{head_text, line_text, lines_text, cuts_text, index_text, cut_text, IsCutInRange, IsPrintable, IsProofText}
+use Rattle.derivation_check.specs.Faults.{IsFault, IsBadLine}
 use Rattle.derivation_check.proofs.Reading.{number_unique, line_front, line_first, line_parts, items_same, cuts_told, all_first, all_rest, good_behind}
 
 pub head_unique : (m n : ℕ) (x y : List ℕ) → m ≤ 2147483647 → n ≤ 2147483647 → head_text m ++ x ≡ head_text n ++ y → (m ≡ n) × (x ≡ y)

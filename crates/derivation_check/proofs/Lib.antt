@@ -9,3 +9,9 @@ pub mod Printing
 pub mod Numbers
 pub mod Reading
 pub mod Again
+pub mod Adding
+pub mod Gets
+pub mod Moving
+pub mod Picking
+pub mod Picked
+pub mod Trimming

@@ -1,5 +1,6 @@
 use crate::print::{print_derivation, print_formula};
 use crate::read::{ProofFault, read_derivation};
+use crate::trim::trimmed;
 use crate::verdict::{Verdict, check};
 use clause_store::{Cut, Derivation, Line, Lit, Store, is_ascending};
 use coco_base::{List, NoMemory};
@@ -155,6 +156,62 @@ fn a_variable_with_both_signs_is_refused(rt: HostRuntime) -> Result<(), Fail> {
         verdict_of(&rt, alloc, &store, text)?,
         Verdict::Wrong { line: 1 }
     );
+    Ok(())
+}
+
+fn trimmed_text(
+    rt: &impl Abort,
+    alloc: Global,
+    store: &Store,
+    text: &[u8],
+) -> Result<Vec<u8>, Fail> {
+    let derivation = read_derivation(alloc, text)?;
+    assert!(rt; derivation.lines.len() < 4_294_967_296);
+    match check(alloc, store, &derivation)? {
+        Verdict::Empty => Ok(print_derivation(alloc, &trimmed(alloc, store, &derivation)?)?),
+        _ => {
+            assert!(rt; false);
+            Ok(Vec::new(alloc))
+        }
+    }
+}
+
+#[test]
+fn drops_lines_that_nothing_rests_on(rt: HostRuntime) -> Result<(), Fail> {
+    let alloc = rt.alloc();
+    let mut store = Store::new(alloc);
+    for (one, other) in [(true, true), (false, true), (true, false), (false, false)] {
+        add(&rt, &mut store, &[lit(0, one), lit(1, other)])?;
+    }
+    let short = b"proof 3\n2 0 1 1 2 0\n-2 0 3 1 4 0\n0 5 2 6 0\n".as_slice();
+    for text in [
+        short,
+        // clause 6 in the middle is not needed, and then clause 7 that names it
+        b"proof 4\n2 0 1 1 2 0\n1 0 1 2 3 0\n-2 0 3 1 4 0\n0 5 2 7 0\n".as_slice(),
+        b"proof 5\n2 0 1 1 2 0\n1 0 1 2 3 0\n1 0 6 0\n-2 0 3 1 4 0\n0 5 2 8 0\n".as_slice(),
+    ] {
+        assert_eq!(rt; trimmed_text(&rt, alloc, &store, text)?.as_slice(), short);
+    }
+    Ok(())
+}
+
+#[test]
+fn keeps_the_last_line(rt: HostRuntime) -> Result<(), Fail> {
+    let alloc = rt.alloc();
+    let mut store = Store::new(alloc);
+    add(&rt, &mut store, &[lit(0, true)])?;
+    add(&rt, &mut store, &[lit(0, false)])?;
+    let last = b"proof 1\n0 1 1 2 0\n".as_slice();
+    for text in [
+        last,
+        b"proof 2\n1 0 1 0\n0 1 1 2 0\n".as_slice(),
+        b"proof 2\n0 1 1 2 0\n0 1 1 2 0\n".as_slice(),
+    ] {
+        assert_eq!(rt; trimmed_text(&rt, alloc, &store, text)?.as_slice(), last);
+    }
+    add(&rt, &mut store, &[])?;
+    let none = b"proof 0\n".as_slice();
+    assert_eq!(rt; trimmed_text(&rt, alloc, &store, none)?.as_slice(), none);
     Ok(())
 }
 
