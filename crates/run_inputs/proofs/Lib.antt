@@ -1,1 +1,2 @@
+pub mod Leafless
 pub mod Stops

@@ -1,11 +1,10 @@
 -- When files make a run, and why they make none: what each reader gives, in the order in which they are asked.
-use Rattle.std.specs.Prelude.{◌≡◌, ◌≢◌, ℕ, ◌≤◌, Bool, true, false, List, [], ◌⊎◌, Option, Some, None, Result, Ok, Err}
+use Rattle.std.specs.Prelude.{◌≡◌, ◌≢◌, ℕ, ◌≤◌, Bool, true, false, List, [], ◌⊎◌, Option, Some, None, Ok, Err}
 use Rattle.std.specs.Str.Lines.{lines}
 use Rattle.coco_base.specs.declared.limits.Limits.{Limits}
 use Rattle.coco_base.specs.declared.netlist.Flat.{Flat}
 use Rattle.coco_model.specs.Setups.{IsBoundTo}
 use Rattle.netlist_json.specs.Flats.{netlist_from}
-use Rattle.netlist_json.specs.declared.fault.NetFault.{NetFault}
 use Rattle.gate_graph.specs.Faults.{IsGraphFault}
 use Rattle.gate_graph.specs.Graphs.{Gates, IsGraphOf}
 use Rattle.gate_graph.specs.declared.fault.GraphFault.{GraphFault}
@@ -20,7 +19,7 @@ use Rattle.label_file.specs.Files.{labels_of}
 use Rattle.label_file.specs.declared.fault.LabelFault.{LabelFault}
 use Rattle.label_file.specs.declared.line.Labels.{Labels}
 use Rattle.bind_run.specs.Outcomes.{IsBindFault, IsSetupOf}
-use Rattle.bind_run.specs.Widened.{widened_by}
+use Rattle.bind_run.specs.Widened.{leaf_addresses, widened_by}
 use Rattle.bind_run.specs.declared.fault.BindFault.{BindFault}
 use Rattle.bind_run.specs.declared.fault.BindFault.TheVariants as bind
 use Rattle.refusal_lines.specs.declared.refusal.Refusal.{Refusal}
@@ -60,6 +59,11 @@ pub record IsWide (files : Files) (limits : Limits) (flat : Flat) (image : Image
   pub labelled : HasLabels files limits plain image labels
   pub wide : widened_by plain labels.lines limits.bits ≡ Ok flat
 
+-- the netlist is that of the file, and no memory word is a leaf
+pub record IsLeafless (files : Files) (limits : Limits) (p : Prepared) : Type 0 where
+  pub read : netlist_from limits.bits files.top files.netlist ≡ Ok p.flat
+  pub none : p.setup.leaves ≡ []
+
 -- a run: this netlist with its graph, and the setup that binds the labels and the program to it
 pub record IsPrepared (files : Files) (limits : Limits) (p : Prepared) : Type 0 where
   pub image : Image
@@ -68,6 +72,7 @@ pub record IsPrepared (files : Files) (limits : Limits) (p : Prepared) : Type 0 
   pub graph : IsGraphOf p.flat p.graph
   pub setup : IsSetupOf p.flat p.graph.clock image labels p.setup
   pub bound : IsBoundTo p.flat p.setup
+  pub leafless : leaf_addresses labels.lines ≡ [] → IsLeafless files limits p
 
 -- ---- why they make none: the first step that has a fault
 
