@@ -21,6 +21,7 @@ use Rattle.coco_model.specs.UnrolledRuns.{IsUnrolledOf, probed_run}
 use Rattle.coco_model.specs.WrittenFindings.{IsFindingValue}
 use Rattle.leak_report.specs.declared.answer.Answer.{Answer}
 use Rattle.leak_report.specs.declared.answer.Answer.TheVariants.{Accepted, Rejected, Undecided}
+use Rattle.derivation_check.specs.Trimmed.{AllNamed}
 use Rattle.probe_encode.specs.Formulas.{EncodedView}
 use Rattle.formula_laws.specs.Laws.{IsInRun}
 use Rattle.run_verdict.specs.declared.formula.Asked.{Asked}
@@ -57,11 +58,12 @@ pub record IsCoveredRun (flat : Flat) (setup : Setup) (asked : Asked) : Type 0 w
   pub roots : IsRooted flat setup asked.cycles row root rooted
   pub covered : IsCovered flat setup asked.cycles asked.window row reach root
 
--- a derivation of the empty clause: at most so many lines, each valid and new, the last one empty; or none, where the
--- clauses have the empty one
-abbrev pub Refutes : List (List Lit) → ℕ → List Line → Type 0
-Refutes clauses steps lines =
-    (length lines ≤ steps) × (IsRefutation clauses lines ⊎ ((lines ≡ []) × Contains clauses []))
+-- a derivation of the empty clause: at most so many lines, each valid and new, the last one empty and resting on all
+-- others; or none, where the clauses have the empty one
+pub record Refutes (clauses : List (List Lit)) (steps : ℕ) (lines : List Line) : Type 0 where
+  pub few : length lines ≤ steps
+  pub named : AllNamed (length clauses) lines
+  pub empty : IsRefutation clauses lines ⊎ ((lines ≡ []) × Contains clauses [])
 
 -- the search was given up after so many lines, each valid and new and none empty; so there were fewer than 3 to the
 -- number of variables

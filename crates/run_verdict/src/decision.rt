@@ -9,7 +9,7 @@ ghost use Rattle.gate_graph.specs.Graphs.{Gates};
 use crate::laws::meaning_law;
 use clause_solver::{Outcome, solve_list};
 use coco_base::NoMemory;
-use derivation_check::refutations_are_sound;
+use derivation_check::{refutations_are_sound, trimmed};
 use leak_report::Answer;
 use pickers::Picker;
 use probe_encode::Encoded;
@@ -42,9 +42,10 @@ pub fn decide(
 {
     meaning_law(); // what the formula means
     refutations_are_sound(); // a derivation of the empty clause leaves no model
+    let store = encoded.store();
     match solve_list(
         alloc,
-        encoded.store(),
+        store,
         encoded.vars(),
         search.steps,
         search.restart,
@@ -54,7 +55,7 @@ pub fn decide(
             alloc,
             model.as_slice(),
         )?)),
-        Outcome::Derived(derivation) => Ok(Answer::Accepted(derivation)),
+        Outcome::Derived(derivation) => Ok(Answer::Accepted(trimmed(alloc, store, &derivation)?)),
         Outcome::Spent(derivation) => Ok(Answer::Undecided(derivation)),
     }
 }
