@@ -20,4 +20,6 @@ pub use line::{LabelLine, LabelValue, Labels};
 pub use read::read_labels;
 
 #[cfg(test)]
+mod row_tests;
+#[cfg(test)]
 mod tests;

@@ -1,5 +1,5 @@
 //! Label files: what they declare, and how they are refused.
-use crate::LabelFault::{BadLine, ShareRange, TooMany, Twice, UnknownSecret};
+use crate::LabelFault::{BadLine, ShareRange, Twice, UnknownSecret};
 use crate::{LabelFault, LabelLine, LabelValue, Labels, read_labels};
 use coco_base::Limits;
 use std::alloc::{AllocError, Global};
@@ -12,14 +12,14 @@ fn read(rt: &impl Abort, alloc: Global, file: &[u8]) -> Result<Labels, LabelFaul
     read_labels(alloc, file, &Limits::usual())
 }
 
-fn labels(rt: &impl Abort, alloc: Global, file: &[u8]) -> Labels {
+pub(crate) fn labels(rt: &impl Abort, alloc: Global, file: &[u8]) -> Labels {
     match read(rt, alloc, file) {
         Ok(labels) => labels,
         Err(fault) => panic!(rt; "{fault:?}"),
     }
 }
 
-fn check_fault(rt: &impl Abort, alloc: Global, file: &[u8], fault: LabelFault) {
+pub(crate) fn check_fault(rt: &impl Abort, alloc: Global, file: &[u8], fault: LabelFault) {
     match read(rt, alloc, file) {
         Ok(_) => panic!(rt; "read without {fault:?}"),
         Err(found) => assert!(rt; found == fault, "{found:?} and not {fault:?}"),
@@ -282,37 +282,4 @@ fn a_file_cut_behind_a_line_is_a_file(rt: HostRuntime) {
         assert_eq!(rt; labels.lines.len(), count);
         assert_eq!(rt; labels.table.declared, if count < 2 { 0 } else { 2 });
     }
-}
-
-#[test]
-fn as_many_labels_as_the_limit_are_read_and_one_more_is_refused(
-    rt: HostRuntime,
-) -> Result<(), Fail> {
-    let alloc = rt.alloc();
-    let mut file = String::new(alloc);
-    for number in 0..64 {
-        file.push_str(format!(in alloc; "secret s{number} 32 2\n")?.as_str())?;
-    }
-    assert_eq!(rt; labels(&rt, alloc, file.as_bytes()).table.declared, 4096);
-    file.push_str("mask m 1\n")?;
-    check_fault(
-        &rt,
-        alloc,
-        file.as_bytes(),
-        TooMany {
-            count: 4097,
-            limit: 4096,
-        },
-    );
-    file.push_str("frob\n")?;
-    check_fault(
-        &rt,
-        alloc,
-        file.as_bytes(),
-        TooMany {
-            count: 4097,
-            limit: 4096,
-        },
-    );
-    Ok(())
 }
