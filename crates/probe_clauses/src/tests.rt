@@ -176,8 +176,8 @@ fn hash(store: &Store) -> u64 {
 
 /// A run with the size and the hash of its clauses.
 #[derive(Clone, Copy)]
-struct Case<'a> {
-    inputs: &'a [bool],
+struct Case {
+    inputs: &'static [bool],
     order: u32,
     window: u32,
     vars: u32,
@@ -185,43 +185,44 @@ struct Case<'a> {
     hash: u64,
 }
 
+const CASES: [Case; 4] = [
+    Case {
+        inputs: &[false, true],
+        order: 1,
+        window: 1,
+        vars: 56,
+        clauses: 141,
+        hash: 17_654_718_836_958_930_791,
+    },
+    Case {
+        inputs: &[false, true, true],
+        order: 2,
+        window: 2,
+        vars: 120,
+        clauses: 334,
+        hash: 12_300_076_471_769_830_413,
+    },
+    Case {
+        inputs: &[true, true, false, true, false],
+        order: 3,
+        window: 3,
+        vars: 252,
+        clauses: 743,
+        hash: 2_356_784_897_697_002_359,
+    },
+    Case {
+        inputs: &[false, false, true, true],
+        order: 1,
+        window: 64,
+        vars: 111,
+        clauses: 291,
+        hash: 2_094_748_482_491_939_405,
+    },
+];
+
 #[test]
 fn runs_have_the_clauses_of_another_encoder(rt: HostRuntime) -> Result<(), Fail> {
-    let cases = [
-        Case {
-            inputs: &[false, true],
-            order: 1,
-            window: 1,
-            vars: 56,
-            clauses: 141,
-            hash: 17_654_718_836_958_930_791,
-        },
-        Case {
-            inputs: &[false, true, true],
-            order: 2,
-            window: 2,
-            vars: 120,
-            clauses: 334,
-            hash: 12_300_076_471_769_830_413,
-        },
-        Case {
-            inputs: &[true, true, false, true, false],
-            order: 3,
-            window: 3,
-            vars: 252,
-            clauses: 743,
-            hash: 2_356_784_897_697_002_359,
-        },
-        Case {
-            inputs: &[false, false, true, true],
-            order: 1,
-            window: 64,
-            vars: 111,
-            clauses: 291,
-            hash: 2_094_748_482_491_939_405,
-        },
-    ];
-    for case in &cases {
+    for case in &CASES {
         let made = clauses_of(rt.alloc(), case.inputs, case.order, case.window)?;
         assert_eq!(rt; made.form.vars(), case.vars);
         assert_eq!(rt; made.form.store().count(), case.clauses);
